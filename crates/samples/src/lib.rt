@@ -1,0 +1,3 @@
+//! Executed examples: tables of cases, each with the answer that the documents give it.
+#[cfg(test)]
+mod sheets;
