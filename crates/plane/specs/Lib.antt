@@ -1,1 +1,4 @@
+pub mod Measures
+pub mod Plane
 pub mod Refusal
+pub mod Rings

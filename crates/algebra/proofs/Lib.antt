@@ -1,0 +1,4 @@
+pub mod Certificates
+pub mod Integers
+pub mod Polynomials
+pub mod Signs
