@@ -31,15 +31,15 @@ pub nonneg : (m e : Expr) (ss : List (Expr × Expr)) → Same (m ⊗ e) (total s
     → Parts ρ ss → pos 0 ≤ℤ eval ρ e
 nonneg m e ss t ρ p h =
     nonneg-of-mul (eval ρ m) (eval ρ e) p
-      (subst (λ z. pos 0 ≤ℤ z) (sym (solve (m ⊗ e) (total ss) t ρ)) (total-nonneg ρ ss h))
+    (subst (λ z. pos 0 ≤ℤ z) (sym (solve (m ⊗ e) (total ss) t ρ)) (total-nonneg ρ ss h))
 
 -- m·e is a product of two positive parts and such a sum, and m is not negative: e is positive.
 pub positive : (m e p q : Expr) (ss : List (Expr × Expr)) → Same (m ⊗ e) (p ⊗ q ⊕ total ss) → (ρ : List ℤ)
     → pos 0 ≤ℤ eval ρ m → pos 0 <ℤ eval ρ p → pos 0 <ℤ eval ρ q → Parts ρ ss → pos 0 <ℤ eval ρ e
 positive m e p q ss t ρ k hp hq h =
     pos-of-mul (eval ρ m) (eval ρ e) k
-      (subst (λ z. pos 0 <ℤ z) (sym (solve (m ⊗ e) (p ⊗ q ⊕ total ss) t ρ))
-        (plus _ _ (mul-pos (eval ρ p) (eval ρ q) hp hq) (total-nonneg ρ ss h)))
+    (subst (λ z. pos 0 <ℤ z) (sym (solve (m ⊗ e) (p ⊗ q ⊕ total ss) t ρ))
+    (plus _ _ (mul-pos (eval ρ p) (eval ρ q) hp hq) (total-nonneg ρ ss h)))
   where
     plus : (x y : ℤ) → pos 0 <ℤ x → pos 0 ≤ℤ y → pos 0 <ℤ (x +ℤ y)
     plus x y p q = omega (arith, ints)

@@ -22,7 +22,6 @@ infixl 6 _⊕_
 infixl 6 _⊖_
 infixl 7 _⊗_
 infix 8 ⊝_
-
 abbrev pub _⊖_ : Expr → Expr → Expr
 e ⊖ f = e ⊕ ⊝ f
 
@@ -60,9 +59,9 @@ abbrev pub add-node : ℕ → Poly → Poly → (Poly → Poly) → (Poly → Po
 add-node i p q plus-p plus-q (con d) = node i (plus-p (con d)) q
 add-node i p q plus-p plus-q (node j r s) =
     elim (compare i j) [
-      Ordering·lt ↦ node i (plus-p (node j r s)) q
-    | Ordering·eq ↦ mk i (plus-p r) (plus-q s)
-    | Ordering·gt ↦ node j (add-node i p q plus-p plus-q r) s
+      | Ordering·lt ↦ node i (plus-p (node j r s)) q
+      | Ordering·eq ↦ mk i (plus-p r) (plus-q s)
+      | Ordering·gt ↦ node j (add-node i p q plus-p plus-q r) s
     ]
 
 abbrev pub add : Poly → Poly → Poly
@@ -77,9 +76,9 @@ abbrev pub times-variable : ℕ → Poly → Poly
 times-variable i (con d) = mk i (con (pos 0)) (con d)
 times-variable i (node j r s) =
     elim (compare i j) [
-      Ordering·lt ↦ node i (con (pos 0)) (node j r s)
-    | Ordering·eq ↦ node i (con (pos 0)) (node j r s)
-    | Ordering·gt ↦ node j (times-variable i r) (times-variable i s)
+      | Ordering·lt ↦ node i (con (pos 0)) (node j r s)
+      | Ordering·eq ↦ node i (con (pos 0)) (node j r s)
+      | Ordering·gt ↦ node j (times-variable i r) (times-variable i s)
     ]
 
 abbrev pub multiply : Poly → Poly → Poly
@@ -150,14 +149,14 @@ module _ (ρ : List ℤ) where
         ap (λ z. z +ℤ value ρ i *ℤ meaning q) (adds-p (con d)) ∙ sum-below (meaning p) (value ρ i *ℤ meaning q) d
     add-node-is (node j r s) =
         by-order i j _ _ _ _ (compare i j) refl
-          (ap (λ z. z +ℤ value ρ i *ℤ meaning q) (adds-p (node j r s))
-           ∙ sum-below (meaning p) (value ρ i *ℤ meaning q) (meaning (node j r s)))
-          (λ e.
-            mk-is i (plus-p r) (plus-q s) ∙ (λ k. adds-p r k +ℤ value ρ i *ℤ adds-q s k)
-            ∙ sum-level (value ρ i) (meaning p) (meaning q) (meaning r) (meaning s)
-            ∙ ap (λ n. meaning p +ℤ value ρ i *ℤ meaning q +ℤ (meaning r +ℤ value ρ n *ℤ meaning s)) e)
-          (ap (λ z. z +ℤ value ρ j *ℤ meaning s) (add-node-is r)
-           ∙ sum-above (meaning p) (value ρ i *ℤ meaning q) (meaning r) (value ρ j *ℤ meaning s))
+        (ap (λ z. z +ℤ value ρ i *ℤ meaning q) (adds-p (node j r s))
+        ∙ sum-below (meaning p) (value ρ i *ℤ meaning q) (meaning (node j r s)))
+        (λ e.
+        mk-is i (plus-p r) (plus-q s) ∙ (λ k. adds-p r k +ℤ value ρ i *ℤ adds-q s k)
+        ∙ sum-level (value ρ i) (meaning p) (meaning q) (meaning r) (meaning s)
+        ∙ ap (λ n. meaning p +ℤ value ρ i *ℤ meaning q +ℤ (meaning r +ℤ value ρ n *ℤ meaning s)) e)
+        (ap (λ z. z +ℤ value ρ j *ℤ meaning s) (add-node-is r)
+        ∙ sum-above (meaning p) (value ρ i *ℤ meaning q) (meaning r) (value ρ j *ℤ meaning s))
 
   add-is : (p r : Poly) → meaning (add p r) ≡ meaning p +ℤ meaning r
   add-is (con c) r = add-constant-is c r
@@ -175,17 +174,17 @@ module _ (ρ : List ℤ) where
   times-variable-is i (con d) = mk-is i (con (pos 0)) (con d) ∙ +ℤ-idl (value ρ i *ℤ d)
   times-variable-is i (node j r s) =
       by-order i j _ _ _ _ (compare i j) refl (+ℤ-idl (value ρ i *ℤ meaning (node j r s)))
-        (λ e. +ℤ-idl (value ρ i *ℤ meaning (node j r s)))
-        ((λ k. times-variable-is i r k +ℤ value ρ j *ℤ times-variable-is i s k)
-         ∙ pull-out (value ρ i) (value ρ j) (meaning r) (meaning s))
+      (λ e. +ℤ-idl (value ρ i *ℤ meaning (node j r s)))
+      ((λ k. times-variable-is i r k +ℤ value ρ j *ℤ times-variable-is i s k)
+      ∙ pull-out (value ρ i) (value ρ j) (meaning r) (meaning s))
 
   multiply-is : (p r : Poly) → meaning (multiply p r) ≡ meaning p *ℤ meaning r
   multiply-is (con c) r = times-constant-is c r
   multiply-is (node i p q) r =
       add-is (multiply p r) (times-variable i (multiply q r))
       ∙ (λ k.
-          multiply-is p r k
-          +ℤ (times-variable-is i (multiply q r) ∙ ap (λ z. value ρ i *ℤ z) (multiply-is q r)) k)
+      multiply-is p r k
+      +ℤ (times-variable-is i (multiply q r) ∙ ap (λ z. value ρ i *ℤ z) (multiply-is q r)) k)
       ∙ spread-over (meaning p) (value ρ i) (meaning q) (meaning r)
 
   var-is : (z : ℤ) → pos 0 +ℤ z *ℤ pos 1 ≡ z

@@ -23,8 +23,12 @@ pub record Support (h : Heights) (p : Position) : Type 0 where
 abbrev pub Supported : Heights → Type 0
 Supported h = (p : Position) → InPlane p → Support h p
 
--- Heights run from 0 to 2^33, and are 0 outside the plane.
+-- A height is a whole number from 0 to 2^33.
+pub record Height (z : ℤ) : Type 0 where
+  pub low : pos 0 ≤ℤ z
+  pub high : z ≤ℤ pos 8589934592
+
+-- Every position has one, and outside the plane it is 0.
 pub record Bounded (h : Heights) : Type 0 where
-  pub low : (p : Position) → pos 0 ≤ℤ h p
-  pub high : (p : Position) → h p ≤ℤ pos 8589934592
+  pub height : (p : Position) → Height (h p)
   pub outside : (p : Position) → (InPlane p → ⊥) → h p ≡ pos 0

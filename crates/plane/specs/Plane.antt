@@ -3,7 +3,7 @@ use mathlib.Core.Path.{_≡_}
 use mathlib.Core.Bool.{Bool, _&&_, cond}
 use Prim.Native.Nat.{ℕ, _≤_, _<_}
 use lib.Dec.{leb, ltb}
-use lib.IntN.{ℤ, pos, negsuc, _+ℤ_, _-ℤ_, _*ℤ_}
+use lib.IntN.{ℤ, pos, negsuc, natAbs, _+ℤ_, _-ℤ_, _*ℤ_}
 use lib.Signed.{ltZ, _<ℤ_, _≤ℤ_}
 pub use Rattle.plane.specs.declared.position.Position.{Position}
 
@@ -11,6 +11,15 @@ pub use Rattle.plane.specs.declared.position.Position.{Position}
 pub record InPlane (q : Position) : Type 0 where
   pub u-in : q .u ≤ 4096
   pub v-in : q .v ≤ 4096
+
+-- A signed number of size at most m.
+pub record Size (z : ℤ) (m : ℕ) : Type 0 where
+  pub size : natAbs z ≤ m
+
+-- Both coordinates are at most m.
+pub record Spans (m : ℕ) (q : Position) : Type 0 where
+  pub u-most : q .u ≤ m
+  pub v-most : q .v ≤ m
 
 -- An inside position lies in the plane and not on its border.
 pub record Within (q : Position) : Type 0 where
@@ -49,12 +58,17 @@ pub record Around (a b c q : Position) : Type 0 where
   pub weight-c : NotRight q a b
   pub total : Left a b c
 
--- The crossing of the edge from a to b at q: +1 where the edge rises past q's height v with q on its left, −1 where it falls past it
--- with q on its right. An edge counts its lower end and not its upper.
+-- The edge from a to b rises past the height v of q, its lower end counted and its upper not, with q on its left.
+abbrev pub rises : Position → Position → Position → Bool
+rises q a b = leb (a .v) (q .v) && (ltb (q .v) (b .v) && ltZ (pos 0) (turn a b q))
+
+-- The edge falls past it, with q on its right.
+abbrev pub falls : Position → Position → Position → Bool
+falls q a b = leb (b .v) (q .v) && (ltb (q .v) (a .v) && ltZ (turn a b q) (pos 0))
+
+-- The crossing of the edge from a to b at q.
 unfoldable pub crossing : Position → Position → Position → ℤ
-crossing q a b =
-    cond (leb (a .v) (q .v) && (ltb (q .v) (b .v) && ltZ (pos 0) (turn a b q))) (pos 1)
-      (cond (leb (b .v) (q .v) && (ltb (q .v) (a .v) && ltZ (turn a b q) (pos 0))) (negsuc 0) (pos 0))
+crossing q a b = cond (rises q a b) (pos 1) (cond (falls q a b) (negsuc 0) (pos 0))
 
 abbrev pub crossings : Position → Position → Position → Position → ℤ
 crossings q a b c = crossing q a b +ℤ crossing q b c +ℤ crossing q c a

@@ -2,7 +2,7 @@
 -- from a point as height it is the circle through the three; a measure makes it another curve.
 use lib.IntN.{ℤ, pos, _+ℤ_, _-ℤ_, _*ℤ_}
 use lib.Signed.{_<ℤ_, _≤ℤ_}
-use Rattle.plane.specs.Plane.{Position, turn}
+use Rattle.plane.specs.Plane.{Position, InPlane, turn}
 use Rattle.plane.specs.Measures.{Heights}
 
 -- The ring number of q.
@@ -24,3 +24,10 @@ pub record NotIn (h : Heights) (a b c q : Position) : Type 0 where
 -- inside it or on it
 pub record NotOut (h : Heights) (a b c q : Position) : Type 0 where
   pub not-out : pos 0 ≤ℤ K h a b c q
+
+-- All four positions of a ring test lie in the plane.
+pub record AllInPlane (a b c q : Position) : Type 0 where
+  pub a-in : InPlane a
+  pub b-in : InPlane b
+  pub c-in : InPlane c
+  pub q-in : InPlane q

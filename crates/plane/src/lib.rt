@@ -1,6 +1,10 @@
 //! The plane of a type family: positions, the exact geometry of masters, and measures.
+mod crossing;
+mod exact;
 mod measure;
 mod position;
+mod ring;
+mod turn;
 
 pub use measure::Measure;
 pub use position::Position;
