@@ -3,11 +3,11 @@ use Prim.Native.Nat.{ℕ, _+_, _*_, _^_, _≤_, _<_}
 use native.Mathlib.Nat.{mul-le-mul}
 use native.Mathlib.Omega.{arith}
 use mathlib.Core.Path.{_≡_, _∙_, sym, subst}
-use lib.IntN.{ℤ, natAbs}
+use lib.IntN.{ℤ, pos, negsuc, natAbs}
 use lib.Signed.{mag}
 use mir.Syntax.{w64}
 use mir.Val.{SFits, toZ, ofZ}
-use Rattle.std.proofs.shelf.Signed.{toZ-ofZ}
+use Rattle.std.proofs.shelf.Signed.{toZ-ofZ, toZ-pos}
 use Rattle.plane.specs.Measures.{Height}
 use Rattle.plane.specs.Plane.{Position, InPlane, Size, Spans}
 
@@ -31,3 +31,14 @@ spans i = record { u-most = i .u-in; v-most = i .v-in }
 
 pub measured : {z w : ℤ} → mag z < 2 ^ 63 → z ≡ w → Height w → Height (toZ w64 (ofZ w64 z))
 measured f e h = subst (λ (x : ℤ). Height x) (sym (known f e)) h
+
+-- A natural number, widened to a signed one.
+pub widened : {n : ℕ} → n < 2 ^ 63 → toZ w64 n ≡ pos n
+widened {n} h = toZ-pos w64 n h
+
+pub widened-size : {n m : ℕ} → n < 2 ^ 63 → n ≤ m → Size (toZ w64 n) m
+widened-size {n} {m} h k = subst (λ (x : ℤ). Size x m) (sym (widened h)) (record { size = k })
+
+pub fits-small : (z : ℤ) → Size z 64 → SFits w64 z
+fits-small (pos n) h = record { sfits = omega arith }
+fits-small (negsuc n) h = record { sfits = omega arith }

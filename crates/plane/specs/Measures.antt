@@ -1,6 +1,8 @@
 -- Measures: a height for each position, under one law.
 use mathlib.Core.Path.{_≡_}
+use mathlib.Core.Bool.{_&&_, cond}
 use mathlib.Core.Logic.{_≢_}
+use lib.Dec.{leb}
 use lib.IntN.{ℤ, pos, _+ℤ_, _-ℤ_, _*ℤ_}
 use lib.Signed.{_<ℤ_, _≤ℤ_}
 use Rattle.plane.specs.Plane.{Position, InPlane, along-u, along-v}
@@ -8,6 +10,10 @@ use Rattle.plane.specs.Plane.{Position, InPlane, along-u, along-v}
 -- Whole numbers, one for each position.
 abbrev pub Heights : Type 0
 Heights = Position → ℤ
+
+-- Heights that are 0 outside the plane.
+unfoldable pub only-in-plane : Heights → Heights
+only-in-plane h p = cond (leb (p .u) 4096 && leb (p .v) 4096) (h p) (pos 0)
 
 -- Twice the height of q above that of p, beyond what the slopes s and t give.
 abbrev pub excess : Heights → ℤ → ℤ → Position → Position → ℤ
