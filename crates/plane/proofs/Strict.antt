@@ -8,8 +8,8 @@ use lib.Signed.{_<ℤ_, _≤ℤ_}
 use Rattle.std.proofs.shelf.Signed.{ints, by-ltZ}
 use Rattle.algebra.proofs.Signs.{mul-le}
 use Rattle.plane.specs.Plane.{Position, InPlane, turn, Left, NotRight, NotLeft, Around}
-use Rattle.plane.specs.Measures.{Heights, Support, excess}
-use Rattle.plane.specs.Rings.{K, Inside}
+use Rattle.plane.specs.Measures.{Heights, Support, Supported, excess}
+use Rattle.plane.specs.Rings.{K, Inside, Holds-around}
 use Rattle.plane.proofs.Turns.{turn-same, turn-cycle, weights-sum, K-excess}
 
 -- Positions that turn left differ.
@@ -64,3 +64,7 @@ pub strict-two : {h : Heights} {a b c q : Position} → Support h q → InPlane 
 strict-two {h} {a} {b} {c} {q} o ia ib ic x y z =
     let r = around x (omega (arith, ints)) z in
     strict o ia ib ic r (apart (turned (turned y))) (λ e. apart x (sym e)) (λ e. apart y (sym e))
+
+-- So the rings of a measure hold what their masters turn left around.
+pub holds-around : {h : Heights} → Supported h → Holds-around h
+holds-around law a b c q o r = strict (law q (o .q-in)) (o .a-in) (o .b-in) (o .c-in) r

@@ -1,8 +1,9 @@
 -- Rings: three masters that turn left have one, and it holds the positions at which K is positive. For the squared distance
 -- from a point as height it is the circle through the three; a measure makes it another curve.
+use mathlib.Core.Logic.{_≢_}
 use lib.IntN.{ℤ, pos, _+ℤ_, _-ℤ_, _*ℤ_}
 use lib.Signed.{_<ℤ_, _≤ℤ_}
-use Rattle.plane.specs.Plane.{Position, InPlane, turn}
+use Rattle.plane.specs.Plane.{Position, InPlane, turn, Around}
 use Rattle.plane.specs.Measures.{Heights}
 
 -- The ring number of q.
@@ -31,3 +32,8 @@ pub record AllInPlane (a b c q : Position) : Type 0 where
   pub b-in : InPlane b
   pub c-in : InPlane c
   pub q-in : InPlane q
+
+-- What the law of a measure gives: where three masters turn left around a position that is none of them, their ring holds it.
+abbrev pub Holds-around : Heights → Type 0
+Holds-around h =
+    (a b c q : Position) → AllInPlane a b c q → Around a b c q → a ≢ q → b ≢ q → c ≢ q → Inside h a b c q

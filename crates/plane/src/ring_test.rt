@@ -4,7 +4,7 @@ ghost use lib.IntN.{_-ℤ_, _*ℤ_};
 ghost use Rattle.std.specs.Options.{Cases};
 ghost use Rattle.plane.specs.Plane.{Size, turn};
 ghost use Rattle.plane.specs.Measures.{Height};
-ghost use Rattle.plane.specs.Rings.{K, AllInPlane};
+ghost use Rattle.plane.specs.Rings.{K, AllInPlane, Holds-around};
 use crate::exact::product;
 use crate::exact::sum;
 use crate::measure::Measure;
@@ -49,7 +49,8 @@ fn ring_number<M: Measure>(measure: &M, a: Position, b: Position, c: Position, q
     sum(sum(at_a, at_b), at_c)
 }
 
-// K of q in the ring of a, b, c, where all four lie in the plane: positive inside the ring, 0 on it.
+// K of q in the ring of a, b, c, where all four lie in the plane: positive inside the ring, 0 on it. Every measure's rings
+// hold what their masters turn left around.
 pub fn ring<M: Measure>(
     measure: &M,
     a: Position,
@@ -57,7 +58,8 @@ pub fn ring<M: Measure>(
     c: Position,
     q: Position,
 ) -> Option<i64>
-    ensures { λ r. ⌜ Cases r (AllInPlane a b c q → ⊥) (λ k. AllInPlane a b c q × (k ≡ K (heights (now (measure .entry))) a b c q)) ⌝ }
+    ensures value { λ r. ⌜ Cases r (AllInPlane a b c q → ⊥) (λ k. AllInPlane a b c q × (k ≡ K (heights (now (measure .entry))) a b c q)) ⌝ }
+    ensures around { λ _. ⌜ Holds-around (heights (now (measure .entry))) ⌝ }
 {
     if a.in_plane() && b.in_plane() && c.in_plane() && q.in_plane() {
         Some(ring_number(measure, a, b, c, q))
