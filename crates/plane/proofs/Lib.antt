@@ -1,3 +1,4 @@
+pub mod Areas
 pub mod Convexity
 pub mod Crossings
 pub mod Fitting

@@ -1,2 +1,4 @@
 pub mod Accepted
+pub mod Buffers
+pub mod RowPlaces
 pub mod Rows

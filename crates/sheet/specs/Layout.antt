@@ -3,13 +3,10 @@ use Prim.Native.Nat.{ℕ, _+_, _*_, _≤_}
 use mathlib.Core.Path.{_≡_}
 use mathlib.Core.List.{List, [], _∷_}
 use lib.ListN.{length, getD}
+use Rattle.figures.specs.Bytes.{word}
 use Rattle.plane.specs.declared.Position.{Position}
 use Rattle.sheet.specs.declared.section.Section.{Section}
 use Rattle.sheet.specs.declared.section.Section.the-variants.{Masters, Advances, Pairs}
-
--- The number in the two bytes from a place on, high byte first.
-abbrev pub word : List ℕ → ℕ → ℕ
-word bytes place = 256 * getD bytes place 0 + getD bytes (place + 1) 0
 
 abbrev pub sections : List Section
 sections = Masters ∷ Advances ∷ Pairs ∷ []

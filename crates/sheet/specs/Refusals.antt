@@ -14,7 +14,10 @@ use Rattle.sheet.specs.declared.fault.SheetFault.{SheetFault}
 use Rattle.sheet.specs.declared.fault.SheetFault.the-variants as fault
 use Rattle.sheet.specs.declared.fault.RecordFault.{RecordFault}
 use Rattle.sheet.specs.declared.fault.RecordFault.the-variants.{NoSuchRecord}
-use Rattle.sheet.specs.Layout.{word, sections, count, stated-length, stated-offset, record-length, room}
+use Rattle.sheet.specs.declared.fault.RowFault.{RowFault}
+use Rattle.sheet.specs.declared.fault.RowFault.the-variants.{NoSuchRow, ShortBuffer}
+use Rattle.figures.specs.Bytes.{word}
+use Rattle.sheet.specs.Layout.{sections, masters, count, stated-length, stated-offset, record-length, room}
 
 -- The number by which a refusal names a section, and 4 for the end.
 abbrev pub section-number : Section → ℕ
@@ -68,3 +71,14 @@ record-refusal NoSuchRecord = record { number = 14; names = [] }
 
 abbrev pub record-rows : List ℕ → ℕ → List Row
 record-rows bytes k = record { applies = leb (count bytes Masters) k; answer = record-refusal NoSuchRecord } ∷ []
+
+-- What each case of RowFault says, and the rows of taking row k of a section into a buffer of some places.
+abbrev pub row-refusal : RowFault → Refusal
+row-refusal NoSuchRow = record { number = 14; names = [] }
+row-refusal ShortBuffer = record { number = 15; names = [] }
+
+abbrev pub taking-rows : List ℕ → Section → ℕ → ℕ → List Row
+taking-rows bytes s k places =
+    record { applies = leb (count bytes s) k; answer = row-refusal NoSuchRow }
+    ∷ record { applies = ltb places (masters bytes); answer = row-refusal ShortBuffer }
+    ∷ []

@@ -1,7 +1,7 @@
 //! Why a sheet or a record of it is refused.
 ghost use mathlib.Core.Path.{_≡_};
 ghost use Rattle.std.specs.Vec.{listOf};
-ghost use Rattle.sheet.specs.Refusals.{sheet-refusal, record-refusal};
+ghost use Rattle.sheet.specs.Refusals.{sheet-refusal, record-refusal, row-refusal};
 use crate::section::Section;
 use crate::section::SectionDebug;
 use crate::section::SectionPartialEq;
@@ -33,6 +33,15 @@ pub enum SheetFault {
 pub enum RecordFault {
     // the section of masters has no record of that number
     NoSuchRecord,
+}
+
+// Why a row is not given, in the order in which it is tested.
+#[derive(Clone, Copy, PartialEq, Eq, Debug)]
+pub enum RowFault {
+    // the section has no row of that number
+    NoSuchRow,
+    // the buffer has fewer places than the family has masters
+    ShortBuffer,
 }
 
 impl SheetFault {
@@ -69,6 +78,18 @@ impl RecordFault {
     {
         match self {
             RecordFault::NoSuchRecord => 14,
+        }
+    }
+}
+
+impl RowFault {
+    // The refusal's number.
+    pub fn number(self) -> u8
+        ensures { λ r. ⌜ r ≡ row-refusal self .number ⌝ }
+    {
+        match self {
+            RowFault::NoSuchRow => 14,
+            RowFault::ShortBuffer => 15,
         }
     }
 }

@@ -2,7 +2,8 @@
 ghost use mathlib.Core.Path.{_≡_};
 ghost use Prim.Native.Nat.{_+_, _*_, _^_, _<_, _≤_};
 ghost use lib.ListN.{length};
-ghost use Rattle.sheet.specs.Layout.{word, entry, count, stated-length, stated-offset, record-length, room, master-record, Keeps-layout};
+ghost use Rattle.figures.specs.Bytes.{word};
+ghost use Rattle.sheet.specs.Layout.{entry, count, masters, stated-length, stated-offset, record-length, room, master-record, Keeps-layout};
 ghost use Rattle.sheet.specs.declared.section.Section.the-variants.{Masters};
 use crate::section::Section;
 use plane::Position;
@@ -50,13 +51,22 @@ pub(crate) fn offset_of(bytes: &[u8], section: Section) -> usize
     number_at(bytes, place_of(section) + 4) as usize
 }
 
+// The masters of the family, the four corners included.
+pub(crate) fn masters_of(bytes: &[u8]) -> usize
+    requires { ⌜ 22 ≤ length (now bytes) ⌝ }
+    ensures value { λ r. ⌜ r ≡ masters (now (bytes .entry)) ⌝ }
+    ensures bound { λ r. ⌜ r < 2 ^ 17 ⌝ }
+{
+    4 + count_of(bytes, Section::Masters)
+}
+
 // The length that the layout gives the records of a section.
 pub(crate) fn lawful_length(bytes: &[u8], section: Section) -> usize
     requires { ⌜ 22 ≤ length (now bytes) ⌝ }
     ensures value { λ r. ⌜ r ≡ record-length (now (bytes .entry)) section ⌝ }
     ensures bound { λ r. ⌜ r < 2 ^ 19 ⌝ }
 {
-    let masters = 4 + count_of(bytes, Section::Masters);
+    let masters = masters_of(bytes);
     match section {
         Section::Masters => 4,
         Section::Advances => 2 + 2 * masters,

@@ -1,0 +1,4 @@
+pub mod Laws
+pub mod Means
+pub mod Owners
+pub mod Passing
