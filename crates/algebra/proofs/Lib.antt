@@ -1,4 +1,14 @@
+pub mod Balance
+pub mod Bearers
 pub mod Certificates
+pub mod Counts
+pub mod Cuts
 pub mod Integers
+pub mod KeptSums
+pub mod KeptTwins
+pub mod Lists
+pub mod Passing
 pub mod Polynomials
 pub mod Signs
+pub mod Sums
+pub mod Tables

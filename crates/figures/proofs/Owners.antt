@@ -4,8 +4,6 @@ use mathlib.Core.Path.{_≡_}
 use native.Mathlib.Omega.{arith}
 use lib.IntN.{ℤ, pos, _+ℤ_}
 use lib.Signed.{_<ℤ_, _≤ℤ_}
-use mir.Syntax.{w64}
-use mir.Val.{toZ, ofZ}
 use Rattle.std.proofs.shelf.Signed.{ints}
 use Rattle.plane.specs.Plane.{turn, Owns}
 use Rattle.plane.specs.Rings.{AllInPlane}
@@ -14,6 +12,7 @@ use Rattle.plane.proofs.Areas.{turn-at-most}
 use Rattle.plane.proofs.Crossings.{owned}
 use Rattle.plane.proofs.Turns.{weights-sum}
 use Rattle.figures.specs.Weights.{Share}
+use Rattle.figures.proofs.Passing.{passed}
 
 -- Three such weights.
 pub record Shares (x y z : ℤ) : Type 0 where
@@ -36,8 +35,8 @@ shares {q} {a} {b} {c} i o =
     (omega (arith, ints)) (omega (arith, ints))
 
 -- A share is passed on by its bits, and taken as a natural number.
-pub passed : {x : ℤ} → Share x → Share (toZ w64 (ofZ w64 x))
-passed {x} s = omega (arith, ints)
+pub passed-share : {x : ℤ} → Share x → Share (passed x)
+passed-share {x} s = omega (arith, ints)
 
-pub taken : {n : ℕ} {x : ℤ} → Share x → pos n ≡ toZ w64 (ofZ w64 x) → pos n ≡ x
+pub taken : {n : ℕ} {x : ℤ} → Share x → pos n ≡ passed x → pos n ≡ x
 taken s e = omega (arith, ints)

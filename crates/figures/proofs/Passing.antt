@@ -1,15 +1,19 @@
--- Numbers that are passed on by their bits, in the sums of blending: each is far below 2^63, so its bits mean it.
+-- Numbers that are passed on by their bits. Each is far below 2^63, so its bits mean it.
+use Prim.Native.Nat.{ℕ, _^_, _<_}
 use mathlib.Core.Path.{_≡_, sym, subst}
 use native.Mathlib.Omega.{arith}
 use lib.IntN.{ℤ, _+ℤ_}
 use mir.Syntax.{w64}
-use mir.Val.{toZ, ofZ}
+use mir.Val.{SFits, toZ, ofZ}
 use Rattle.std.proofs.shelf.Signed.{ints}
 use Rattle.plane.specs.Plane.{Size}
 use Rattle.figures.specs.Figures.{Range, InRange, Narrow}
 
 abbrev pub passed : ℤ → ℤ
 passed z = toZ w64 (ofZ w64 z)
+
+pub fits : {z : ℤ} {m : ℕ} → Size z m → m < 2 ^ 63 → SFits w64 z
+fits s l = omega (arith, ints)
 
 pub same-number : {z : ℤ} → Size z 65535 → passed z ≡ z
 same-number s = omega (arith, ints)

@@ -14,7 +14,7 @@ use Rattle.figures.specs.declared.fault.BlendFault.{BlendFault}
 use Rattle.figures.specs.declared.fault.BlendFault.the-variants.{Figures}
 use Rattle.figures.specs.declared.mix.Mix.{Mix}
 
--- The greatest whole number that is not above z / d. Below 0 the numbers −1 to −d give −1, the next d give −2, and so on.
+-- The greatest whole number that is not above z / d: of −1 to −d it is −1, of the next d numbers down it is −2, and so on.
 abbrev pub floor : ℤ → ℕ → ℤ
 floor (pos n) d = pos (n / d)
 floor (negsuc n) d = negsuc (n / d)
@@ -44,7 +44,8 @@ pub record Between (number : ℕ → ℤ) (z : ℤ) : Type 0 where
 abbrev pub mixed : {F : Type 0} → (F → ℤ) → List F → F → Mix → ℕ → ℤ
 mixed number row past mix i = number (getD row (getD (mix .masters) i 0) past)
 
--- What is promised of a blend's number z, wherever a row is read with a default for what is past its end.
+-- What is promised of a blend's number z. A row is read with a default for what is past its end: each promise holds for
+-- every default.
 module _ {F : Type 0} (number : F → ℤ) (row : List F) (mix : Mix) (z : ℤ) where
   -- It is the blended number of the three masters.
   abbrev pub IsBlend : Type 0

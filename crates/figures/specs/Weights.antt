@@ -5,7 +5,7 @@ use lib.IntN.{ℤ, pos}
 use lib.ListN.{getD}
 use lib.Signed.{_≤ℤ_}
 
--- A weight is not negative, and at most twice the area of the plane.
+-- A weight is not negative, and at most 4,096², the area of the plane.
 pub record Share (z : ℤ) : Type 0 where
   pub low : pos 0 ≤ℤ z
   pub high : z ≤ℤ pos 16777216

@@ -45,7 +45,7 @@ pub impl Figure for Advance as AdvanceFigure {
         }
     }
 
-    fn part(&self, p: usize) -> i64 {
+    fn part(&self, _p: usize) -> i64 {
         self.value as i64
     }
 

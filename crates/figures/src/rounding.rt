@@ -2,9 +2,9 @@
 ghost use mathlib.Core.Path.{_≡_};
 ghost use Prim.Native.Nat.{_*_, _<_, _≤_};
 ghost use lib.IntN.{pos, _+ℤ_, _*ℤ_};
+ghost use lib.ListN.{getD};
 ghost use lib.Signed.{_<ℤ_};
 ghost use Rattle.std.specs.Numbers.{divEuclid};
-ghost use lib.ListN.{getD};
 ghost use Rattle.plane.specs.Plane.{Size};
 ghost use Rattle.figures.specs.Blends.{Small, weighted-sum, blended-number};
 use crate::mix::Mix;
@@ -46,6 +46,7 @@ fn floor_quotient(z: i64, divisor: i64) -> i64
     z.div_euclid(divisor)
 }
 
+// Twice the total.
 fn doubled(total: u32) -> i64
     requires { ⌜ total ≤ 16777216 ⌝ }
     ensures { λ r. ⌜ r ≡ pos (2 * total) ⌝ }
@@ -53,6 +54,7 @@ fn doubled(total: u32) -> i64
     2 * total as i64
 }
 
+// Twice a sum, with the total added: divided by twice the total, it is the mean and a half.
 fn raised(sum: i64, total: u32) -> i64
     requires sum { ⌜ Size sum 4398046511104 ⌝ }
     requires most { ⌜ total ≤ 16777216 ⌝ }

@@ -1,6 +1,11 @@
 //! Executed examples: tables of cases, each with the answer that the documents give it.
+mod bearing;
+#[cfg(test)]
+mod blends;
 #[cfg(test)]
 mod geometry;
 mod grained;
+#[cfg(test)]
+mod rows;
 #[cfg(test)]
 mod sheets;

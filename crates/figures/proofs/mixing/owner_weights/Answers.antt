@@ -3,17 +3,17 @@ use mathlib.Core.List.{[], _∷_}
 use native.Mathlib.Omega.{arith}
 use Rattle.std.proofs.shelf.Signed.{ints}
 use Rattle.plane.proofs.Turns.{weights-sum}
-use Rattle.figures.proofs.Owners.{shares, passed, taken}
+use Rattle.figures.proofs.Owners.{shares, passed-share, taken}
 use Rattle.figures.proofs.mixing.owner_weights.Needs as need
 
 pub weight-requires : need.weight-requires
-weight-requires c κs = rw (c .weights .ensures) (passed (shares (c .pre .housed) (c .pre .owned) .first))
+weight-requires c κs = rw (c .weights .ensures) (passed-share (shares (c .pre .housed) (c .pre .owned) .first))
 
 pub weight-requires-2 : need.weight-requires-2
-weight-requires-2 c κs = rw (c .weights .ensures) (passed (shares (c .pre .housed) (c .pre .owned) .second))
+weight-requires-2 c κs = rw (c .weights .ensures) (passed-share (shares (c .pre .housed) (c .pre .owned) .second))
 
 pub weight-requires-3 : need.weight-requires-3
-weight-requires-3 c κs = rw (c .weights .ensures) (passed (shares (c .pre .housed) (c .pre .owned) .third))
+weight-requires-3 c κs = rw (c .weights .ensures) (passed-share (shares (c .pre .housed) (c .pre .owned) .third))
 
 pub returns : need.returns
 returns c =

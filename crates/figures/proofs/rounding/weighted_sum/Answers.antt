@@ -1,13 +1,10 @@
 -- Three terms of at most 2^40 each.
 use mathlib.Core.Path.{_≡_, _∙_, sym, subst}
-use native.Mathlib.Omega.{arith}
+use lib.Dec.{lit<}
 use lib.IntN.{ℤ, _+ℤ_}
-use mir.Syntax.{w64}
-use mir.Val.{SFits}
-use Rattle.std.proofs.shelf.Signed.{ints}
 use Rattle.plane.specs.Plane.{Size}
 use Rattle.plane.proofs.Fitting.{known, sized}
-use Rattle.figures.proofs.Passing.{passed, three, three-size}
+use Rattle.figures.proofs.Passing.{passed, fits, three, three-size}
 use Rattle.figures.proofs.rounding.weighted_sum.Needs as need
 
 summed : (c : need.After-term-3)
@@ -21,16 +18,13 @@ small c =
     subst (λ (z : ℤ). Size z 4398046511104) (sym (summed c))
     (three-size (c .term .ensures .bound) (c .term-2 .ensures .bound) (c .term-3 .ensures .bound))
 
-fits : {z : ℤ} → Size z 4398046511104 → SFits w64 z
-fits s = omega (arith, ints)
-
 pub add-result-2 : need.add-result-2
-add-result-2 c = fits (small c)
+add-result-2 c = fits (small c) (lit< tt)
 
 pub returns : need.returns
 returns c =
     record {
-      value = known (fits (small c) .sfits)
+      value = known (fits (small c) (lit< tt) .sfits)
           (summed c ∙ (λ i. c .term .ensures .value i +ℤ c .term-2 .ensures .value i +ℤ c .term-3 .ensures .value i));
-      bound = sized (fits (small c) .sfits) (small c);
+      bound = sized (fits (small c) (lit< tt) .sfits) (small c);
     }

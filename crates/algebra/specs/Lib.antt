@@ -1,0 +1,5 @@
+pub mod Cuts
+pub mod Passing
+pub mod Placing
+pub mod Sums
+pub mod Tables
