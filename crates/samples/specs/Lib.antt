@@ -1,1 +1,2 @@
 pub mod Grained
+pub mod Sample

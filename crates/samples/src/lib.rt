@@ -2,6 +2,7 @@
 mod bearing;
 #[cfg(test)]
 mod blends;
+mod derived;
 #[cfg(test)]
 mod geometry;
 mod grained;
@@ -9,3 +10,7 @@ mod grained;
 mod rows;
 #[cfg(test)]
 mod sheets;
+#[cfg(test)]
+mod trees;
+
+pub use derived::examples_derived;
