@@ -1,6 +1,7 @@
 //! Fresh trees, and reading their nodes.
 use crate::grained::Grained;
 use crate::grained::GrainedMeasure;
+use mesh::Node;
 use mesh::NodeFault;
 use mesh::NodeFaultDebug;
 use mesh::NodeFaultPartialEq;
@@ -10,6 +11,7 @@ use plane::Optical;
 use plane::OpticalMeasure;
 use plane::Weighted;
 use plane::WeightedMeasure;
+use std::mem::size_of;
 use std::test::*;
 
 // The masters and the neighbours of the two nodes of a fresh tree.
@@ -53,4 +55,11 @@ fn fresh_trees() -> Result<(), Fail> {
         ([0, 1, 3], [None, Some(1), None]),
         ([1, 2, 3], [None, None, Some(0)]),
     )
+}
+
+// What the documents say of memory.
+#[test]
+fn sizes() -> Result<(), Fail> {
+    check_eq(size_of::<Node>(), 38)?;
+    check_eq(size_of::<Tables>(), 39_440)
 }
