@@ -11,6 +11,7 @@ use Rattle.std.specs.declared.option.Option.{Option}
 use Rattle.std.specs.declared.option.Option.the-variants.{Some, None}
 use Rattle.plane.specs.declared.position.Position.{Position}
 use Rattle.plane.specs.Measures.{Heights}
+use Rattle.plane.specs.Plane.{InPlane}
 use Rattle.plane.specs.Rings.{K}
 use Rattle.mesh.specs.declared.node.Node.{Node}
 use Rattle.mesh.specs.Tree.{Mesh, corner, born, fresh}
@@ -18,6 +19,14 @@ use Rattle.mesh.specs.Tree.{Mesh, corner, born, fresh}
 -- The position of a master.
 abbrev pub stand : List Position → ℕ → Position
 stand ms m = getD ms m (corner 0 0)
+
+-- What is read past the last node.
+abbrev pub no-node : Node
+no-node = record { masters = []; neighbours = []; father = None; stepfather = None; killer = None; sons = [] }
+
+-- All masters stand in the plane.
+abbrev pub Housed : List Position → Type 0
+Housed ms = (m : ℕ) → InPlane (stand ms m)
 
 -- Edge e of a node runs from its master e to the next one round.
 abbrev pub next : ℕ → ℕ

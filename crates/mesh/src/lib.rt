@@ -1,6 +1,7 @@
 //! The Delaunay tree of a family: every triangle ever made, with its fathers, sons, neighbours and killers.
 mod beginning;
 mod fault;
+mod killing;
 mod node;
 mod reading;
 mod tables;
