@@ -1,4 +1,5 @@
 //! A type family: drafts that take masters, faces that answer questions.
+#![tactic(auto)]
 mod call;
 mod draft;
 mod drafting;

@@ -1,4 +1,5 @@
 //! The Delaunay tree of a family: every triangle ever made, with its fathers, sons, neighbours and killers.
+#![tactic(auto)]
 mod beginning;
 mod changing;
 mod edge;

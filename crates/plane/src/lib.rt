@@ -1,4 +1,5 @@
 //! The plane of a type family: positions, the exact geometry of masters, and measures.
+#![tactic(auto)]
 
 mod exact;
 mod measure;

@@ -1,4 +1,5 @@
 //! Sheets: the byte format in which a type family is delivered.
+#![tactic(auto)]
 mod checking;
 mod fault;
 mod heading;
