@@ -16,7 +16,7 @@ impl<M: Measure> Draft<M> {
     // A fresh draft: the family without placed masters.
     pub fn new(measure: M) -> Draft<M>
         ensures keeps { result.measure ≡ measure }
-        ensures fresh { Made (heights measure) [] result.tables }
+        ensures fresh { Made (M.heights measure) [] result.tables }
     {
         let tables = Tables::fresh(&measure);
         Draft { measure, tables }
@@ -24,7 +24,7 @@ impl<M: Measure> Draft<M> {
 
     // Places a master and answers its number.
     pub fn place(&mut self, p: Position) -> Result<u8, PlaceFault>
-        ensures steps { Stepped (heights self.old.measure) self.old.tables (place p) (place_outcome result)
+        ensures steps { Stepped (M.heights self.old.measure) self.old.tables (place p) (place_outcome result)
             self.new.tables }
         ensures measures { self.new.measure ≡ self.old.measure }
         ensures keeps { is_ok result ≡ false → self.new ≡ self.old }
@@ -34,7 +34,7 @@ impl<M: Measure> Draft<M> {
 
     // Uses the draft up and gives its face. All tables are kept.
     pub fn release(self) -> Face<M>
-        ensures steps { Stepped (heights self.measure) self.tables release done result.tables }
+        ensures steps { Stepped (M.heights self.measure) self.tables release done result.tables }
         ensures keeps { (result.measure ≡ self.measure) × (result.tables ≡ self.tables) }
     {
         let Draft { measure, tables } = self;

@@ -21,9 +21,9 @@ use plane::{Measure, Position};
 impl<M: Measure> Face<M> {
     // The mix of the owner of q.
     pub fn question(&self, q: Position) -> Result<Mix, QuestionFault>
-        ensures steps { Stepped (heights self.now.measure) self.now.tables (ask q) (question_outcome result)
+        ensures steps { Stepped (M.heights self.now.measure) self.now.tables (ask q) (question_outcome result)
             self.now.tables }
-        ensures own { (ps : List APosition) → Made (heights self.now.measure) ps self.now.tables → (k : ℕ)
+        ensures own { (ps : List APosition) → Made (M.heights self.now.measure) ps self.now.tables → (k : ℕ)
             → k < length (in_use self.now.tables).masters → stand (in_use self.now.tables).masters k ≡ q
             → IfOk result (λ x. ShowsOnly x k) }
     {
@@ -47,7 +47,7 @@ impl<M: Measure> Face<M> {
 
     // Uses the face up and gives the draft back. All tables are kept.
     pub fn reopen(self) -> Draft<M>
-        ensures steps { Stepped (heights self.measure) self.tables reopen done result.tables }
+        ensures steps { Stepped (M.heights self.measure) self.tables reopen done result.tables }
         ensures keeps { (result.measure ≡ self.measure) × (result.tables ≡ self.tables) }
     {
         let Face { measure, tables } = self;

@@ -23,8 +23,8 @@ impl<M: Measure> Draft<M> {
     // Places the position of a record.
     fn place_record(&mut self, number: u16, p: Position) -> Result<(), BadRecord>
         ensures placed { MatchResult result
-            (λ _. Took (heights self.old.measure) self.old.tables p self.new.tables)
-            (λ bad. Declined (heights self.old.measure) self.old.tables p number bad) }
+            (λ _. Took (M.heights self.old.measure) self.old.tables p self.new.tables)
+            (λ bad. Declined (M.heights self.old.measure) self.old.tables p number bad) }
         ensures measures { self.new.measure ≡ self.old.measure }
     {
         match self.place(p) {
@@ -38,9 +38,9 @@ impl<M: Measure> Draft<M> {
         requires counted { k < count sheet.now.bytes.now Masters }
         requires small { k < 2 ^ 16 }
         ensures placed { MatchResult result
-            (λ _. Took (heights self.old.measure) self.old.tables (master_record sheet.now.bytes.now k)
+            (λ _. Took (M.heights self.old.measure) self.old.tables (master_record sheet.now.bytes.now k)
             self.new.tables)
-            (λ bad. Declined (heights self.old.measure) self.old.tables
+            (λ bad. Declined (M.heights self.old.measure) self.old.tables
             (master_record sheet.now.bytes.now k) k bad) }
         ensures measures { self.new.measure ≡ self.old.measure }
     {
@@ -53,7 +53,7 @@ impl<M: Measure> Draft<M> {
 
     // Places the records in order, until one is refused.
     fn place_records(&mut self, sheet: &Sheet) -> Result<(), BadRecord>
-        ensures placed { TookAll (heights self.old.measure) self.old.tables sheet.now.bytes.now
+        ensures placed { TookAll (M.heights self.old.measure) self.old.tables sheet.now.bytes.now
             (refused record_refusal result) self.new.tables }
         ensures measures { self.new.measure ≡ self.old.measure }
     {
@@ -65,11 +65,11 @@ impl<M: Measure> Draft<M> {
 
     // Places the masters of a sheet in order, into a draft without placed masters. At a bad record the draft is fresh again.
     pub fn load(&mut self, sheet: &Sheet) -> Result<(), LoadFault>
-        ensures steps { Stepped (heights self.old.measure) self.old.tables (load sheet.now.bytes.now)
+        ensures steps { Stepped (M.heights self.old.measure) self.old.tables (load sheet.now.bytes.now)
             (load_outcome result) self.new.tables }
         ensures measures { self.new.measure ≡ self.old.measure }
         ensures leaves { IfErr result (λ fault. Leaves fault (self.new ≡ self.old)
-            (in_use self.new.tables ≡ fresh (heights self.old.measure))) }
+            (in_use self.new.tables ≡ fresh (M.heights self.old.measure))) }
     {
         if self.tables.masters().len() > CORNERS {
             return Err(LoadFault::HasMasters);

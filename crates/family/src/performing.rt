@@ -37,7 +37,7 @@ fn question_answer(r: Result<Mix, QuestionFault>) -> Answer
 impl<M: Measure> Draft<M> {
     // Checks the bytes of a sheet and loads them.
     fn load_bytes(&mut self, bytes: &[u8]) -> Answer
-        ensures steps { Stepped (heights self.old.measure) self.old.tables (load bytes.now)
+        ensures steps { Stepped (M.heights self.old.measure) self.old.tables (load bytes.now)
             (answer_outcome result) self.new.tables }
         ensures measures { self.new.measure ≡ self.old.measure }
     {
@@ -53,7 +53,7 @@ impl<M: Measure> Draft<M> {
 
     // A call on a draft.
     fn perform(mut self, call: Call) -> (Family<M>, Option<Answer>)
-        ensures { Answered heights (Open self) (deed_of call.entry) result.1 result.0 }
+        ensures { Answered M.heights (Open self) (deed_of call.entry) result.1 result.0 }
     {
         match call {
             Call::Release => (Family::Shut(self.release()), Some(Answer::Done)),
@@ -73,7 +73,7 @@ impl<M: Measure> Draft<M> {
 impl<M: Measure> Face<M> {
     // A call on a face.
     fn perform(self, call: Call) -> (Family<M>, Option<Answer>)
-        ensures { Answered heights (Shut self) (deed_of call.entry) result.1 result.0 }
+        ensures { Answered M.heights (Shut self) (deed_of call.entry) result.1 result.0 }
     {
         match call {
             Call::Reopen => (Family::Open(self.reopen()), Some(Answer::Done)),
@@ -89,8 +89,8 @@ impl<M: Measure> Face<M> {
 impl<M: Measure> Family<M> {
     // Performs one call. None where a draft or a face does not allow it; then nothing changed.
     pub fn perform(self, call: Call) -> (Family<M>, Option<Answer>)
-        ensures answers { Answered heights self (deed_of call.entry) result.1 result.0 }
-        ensures extends { Extends heights self (deed_of call.entry) result.1 result.0 }
+        ensures answers { Answered M.heights self (deed_of call.entry) result.1 result.0 }
+        ensures extends { Extends M.heights self (deed_of call.entry) result.1 result.0 }
     {
         match self {
             Family::Open(draft) => draft.perform(call),

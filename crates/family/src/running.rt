@@ -13,7 +13,7 @@ impl<M: Measure> Family<M> {
     // A fresh draft.
     pub fn fresh(measure: M) -> Family<M>
         ensures measures { measure_of result ≡ measure }
-        ensures lived { Lived (heights measure) [] (stage_of result) (tables_of result) }
+        ensures lived { Lived (M.heights measure) [] (stage_of result) (tables_of result) }
     {
         Family::Open(Draft::new(measure))
     }
@@ -21,7 +21,7 @@ impl<M: Measure> Family<M> {
     // Performs the longest part of the calls from the front that draft and face allow and the buffer has room for, and says how many
     // these are. Their answers go into the first places of the buffer; later places are left alone.
     pub fn run(self, calls: &[Call], answers: &mut [Answer]) -> (Family<M>, usize)
-        ensures { Ran heights self calls.now answers.old answers.new result.0 result.1 }
+        ensures { Ran M.heights self calls.now answers.old answers.new result.0 result.1 }
     {
         let mut family = self;
         let limit = calls.len().min(answers.len());
@@ -38,7 +38,7 @@ impl<M: Measure> Family<M> {
 
     // Makes a fresh draft with a measure and runs any list of calls on it.
     pub fn run_fresh(measure: M, calls: &[Call], answers: &mut [Answer]) -> (Family<M>, usize)
-        ensures lived { Lived (heights measure) (events (take result.1 calls.now) (take result.1 answers.new))
+        ensures lived { Lived (M.heights measure) (events (take result.1 calls.now) (take result.1 answers.new))
             (stage_of result.0) (tables_of result.0) }
         ensures stopped { Stopped calls.now answers.old answers.new (stage_of result.0) result.1 }
         ensures measures { measure_of result.0 ≡ measure }

@@ -16,14 +16,14 @@ const CORNERS: [Position; 4] = [
 
 // The heights at two positions together.
 fn together<M: Measure>(measure: &M, a: Position, b: Position) -> i64
-    ensures { result ≡ heights measure.now a +ℤ heights measure.now b }
+    ensures { result ≡ M.heights measure.now a +ℤ M.heights measure.now b }
 {
     measure.height(a) + measure.height(b)
 }
 
 // Whether the heights of corners 0 and 2 together are at most those of 1 and 3.
 fn is_flat<M: Measure>(measure: &M) -> bool
-    ensures { result ≡ flat_diagonal (heights measure.now) }
+    ensures { result ≡ flat_diagonal (M.heights measure.now) }
 {
     together(measure, CORNERS[0], CORNERS[2]) <= together(measure, CORNERS[1], CORNERS[3])
 }
@@ -48,7 +48,7 @@ fn first_pair(flat: bool) -> (Node, Node)
 impl Tables {
     // The tables of a family without placed masters.
     pub fn fresh<M: Measure>(measure: &M) -> Tables
-        ensures { in_use result ≡ fresh (heights measure.now) }
+        ensures { in_use result ≡ fresh (M.heights measure.now) }
     {
         let (first, second) = first_pair(is_flat(measure));
         let mut positions = [CORNERS[0]; MOST_MASTERS];

@@ -11,7 +11,7 @@ use plane::{Measure, Position, ring};
 // Whether the ring of a node holds p.
 fn ring_holds<M: Measure>(measure: &M, masters: &[Position], node: &Node, p: Position) -> bool
     ensures { Housed masters.now → InPlane p
-        → result ≡ holds (heights measure.now) masters.now p node.now }
+        → result ≡ holds (M.heights measure.now) masters.now p node.now }
 {
     let [a, b, c] = vertices_of(masters, node);
     match ring(measure, a, b, c, p) {
@@ -23,7 +23,7 @@ fn ring_holds<M: Measure>(measure: &M, masters: &[Position], node: &Node, p: Pos
 // Whether p kills a node: it is live, and its ring holds p.
 fn is_killed<M: Measure>(measure: &M, masters: &[Position], node: &Node, p: Position) -> bool
     ensures { Housed masters.now → InPlane p
-        → result ≡ kills (heights measure.now) masters.now p node.now }
+        → result ≡ kills (M.heights measure.now) masters.now p node.now }
 {
     node.killer.is_none() && ring_holds(measure, masters, node, p)
 }
@@ -37,7 +37,7 @@ pub(crate) fn doomed<M: Measure>(
 ) -> [bool; MOST_NODES]
     requires { length nodes.now ≤ 1024 }
     ensures { Housed masters.now → InPlane p → take (length nodes.now) result
-        ≡ map (kills (heights measure.now) masters.now p) nodes.now }
+        ≡ map (kills (M.heights measure.now) masters.now p) nodes.now }
 {
     let mut out = [false; MOST_NODES];
     for (i, node) in nodes.iter().enumerate() {

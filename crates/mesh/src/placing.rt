@@ -87,9 +87,9 @@ impl Tables {
     // Places p, the next master, and answers its number. A refusal changes nothing.
     pub fn place<M: Measure>(&mut self, measure: &M, p: Position) -> Result<u8, PlaceFault>
         ensures refuses { Housed (in_use self.old).masters
-            → refused place_refusal result ≡ first (place_rows (heights measure.now) (in_use self.old) p) }
+            → refused place_refusal result ≡ first (place_rows (M.heights measure.now) (in_use self.old) p) }
         ensures places { IfOk result (λ n. Housed (in_use self.old).masters
-            → Placed (heights measure.now) (in_use self.old) p n (in_use self.new)) }
+            → Placed (M.heights measure.now) (in_use self.old) p n (in_use self.new)) }
         ensures keeps { is_ok result ≡ false → self.new ≡ self.old }
     {
         admit(self.masters(), p)?;

@@ -3,7 +3,7 @@ use Rattle.std.specs.Prelude.{◌≡◌, ◌+◌, ◌<◌, ◌≢◌, pos}
 use Rattle.std.proofs.Common.{⊎_elim, arith}
 use Rattle.std.proofs.lemmas.Int.{ints}
 use Rattle.std.proofs.lemmas.Bool.{cases_lt}
-use Rattle.plane.specs.Plane.{Position, InPlane}
+use Rattle.plane.specs.Plane.{Position}
 use Rattle.plane.specs.Measures.{Heights, Bounded, Support, Supported}
 use Rattle.plane.specs.Optical.{rise, optic, optical_height}
 use Rattle.plane.specs.InPlane.{bounded_in_plane, support_in_plane}

@@ -1,13 +1,13 @@
 -- The laws of the weighted measure: its form is positive away from 0, since A times it is a sum of squares.
-use Rattle.std.specs.Prelude.{◌≡◌, ℕ, ◌*◌, ◌≤◌, true, ◌≢◌, ◌⊎◌, List, [], ◌∷◌, ℤ, pos, negsuc, ◌+ℤ◌, ◌-ℤ◌, ◌*ℤ◌, ◌≤ℤ◌, ◌<ℤ◌, refl}
-use Rattle.std.proofs.Common.{mul-le-mul, arith, sym, subst, ◌∙◌, inl, inr}
+use Rattle.std.specs.Prelude.{◌≡◌, ℕ, ◌*◌, ◌≤◌, true, ◌≢◌, [], ◌∷◌, ℤ, pos, ◌+ℤ◌, ◌-ℤ◌, ◌*ℤ◌, ◌≤ℤ◌, ◌<ℤ◌}
+use Rattle.std.proofs.Common.{mul-le-mul, arith, sym, subst}
 use Rattle.std.proofs.Math.Decide.{ℕ_discrete}
 use Rattle.std.proofs.lemmas.Int.{ints}
 use Rattle.std.proofs.lemmas.Bool.Decides.{nat_tests}
 use Rattle.algebra.proofs.Certificates.{nonneg, positive}
 use Rattle.algebra.proofs.Polynomials.{Expr, var, lit, ◌⊕◌, ◌⊗◌, ◌⊖◌, solve}
 use Rattle.algebra.proofs.Signs.{abs_mul_le, square_nonneg, square_pos}
-use Rattle.plane.specs.Measures.{Heights, Height, Support, Supported, Bounded, excess}
+use Rattle.plane.specs.Measures.{Heights, Height, Supported, Bounded, excess}
 use Rattle.plane.specs.Plane.{Position, InPlane, Size, along_u, along_v}
 use Rattle.plane.specs.Weighted.{keeps_rule, form, weighted_height}
 use Rattle.plane.specs.LiveTriangles.{same_position}

@@ -12,7 +12,7 @@ use crate::position::Position;
 // How much higher the measure lies at a than a height.
 fn rise<M: Measure>(measure: &M, a: Position, height: i64) -> i64
     requires { Height height }
-    ensures value { result ≡ heights measure.now a -ℤ height }
+    ensures value { result ≡ M.heights measure.now a -ℤ height }
     ensures bound { Size result 8589934592 }
 {
     measure.height(a) - height
@@ -29,7 +29,7 @@ fn term<M: Measure>(
 ) -> i64
     requires height { Height height }
     requires housed { AllInPlane a b c q }
-    ensures value { result ≡ (heights measure.now a -ℤ height) *ℤ turn q b c }
+    ensures value { result ≡ (M.heights measure.now a -ℤ height) *ℤ turn q b c }
     ensures bound { Size result 288230376151711744 }
 {
     product(rise(measure, a, height), turn(q, b, c))
@@ -38,7 +38,7 @@ fn term<M: Measure>(
 // K of q in the ring of a, b, c.
 fn ring_number<M: Measure>(measure: &M, a: Position, b: Position, c: Position, q: Position) -> i64
     requires { AllInPlane a b c q }
-    ensures { result ≡ K (heights measure.now) a b c q }
+    ensures { result ≡ K (M.heights measure.now) a b c q }
 {
     let height = measure.height(q);
     let at_a = term(measure, height, a, b, c, q);
@@ -56,8 +56,8 @@ pub fn ring<M: Measure>(
     c: Position,
     q: Position,
 ) -> Option<i64>
-    ensures value { MatchOption result (AllInPlane a b c q → ⊥) (λ k. AllInPlane a b c q × (k ≡ K (heights measure.now) a b c q)) }
-    ensures around { HoldsAround (heights measure.now) }
+    ensures value { MatchOption result (AllInPlane a b c q → ⊥) (λ k. AllInPlane a b c q × (k ≡ K (M.heights measure.now) a b c q)) }
+    ensures around { HoldsAround (M.heights measure.now) }
 {
     if a.in_plane() && b.in_plane() && c.in_plane() && q.in_plane() {
         Some(ring_number(measure, a, b, c, q))

@@ -7,9 +7,9 @@ use Rattle.plane.proofs.orientation.turn.Goals as goal
 pub difference-requires : goal.difference-requires
 difference-requires c =
     small_sum
-    (sized c.rectangle-rising.type-inv
+    (sized c.rectangle-rising.type_inv
     (c.rectangle-rising.ensures.bound 65535 (search rules) (search rules) (search rules) (search rules)))
-    (sized c.rectangle-falling.type-inv
+    (sized c.rectangle-falling.type_inv
     (c.rectangle-falling.ensures.bound 65535 (search rules) (search rules) (search rules) (search rules)))
     (lit< tt)
 
@@ -18,17 +18,17 @@ unfolding turn
 returns c =
     record {
       value =
-          known c.difference.type-inv
+          known c.difference.type_inv
           (c.difference.ensures.value
           ∙ (λ i.
-          known c.rectangle-rising.type-inv c.rectangle-rising.ensures.value i
-          -ℤ known c.rectangle-falling.type-inv c.rectangle-falling.ensures.value i));
+          known c.rectangle-rising.type_inv c.rectangle-rising.ensures.value i
+          -ℤ known c.rectangle-falling.type_inv c.rectangle-falling.ensures.value i));
       bound =
           λ m ha hb hc.
-          sized c.difference.type-inv
+          sized c.difference.type_inv
           (c.difference.ensures.bound (m * m) (m * m)
-          (sized c.rectangle-rising.type-inv
+          (sized c.rectangle-rising.type_inv
           (c.rectangle-rising.ensures.bound m ha.u_most hb.u_most ha.v_most hc.v_most))
-          (sized c.rectangle-falling.type-inv
+          (sized c.rectangle-falling.type_inv
           (c.rectangle-falling.ensures.bound m ha.v_most hb.v_most ha.u_most hc.u_most)));
     }

@@ -1,4 +1,4 @@
-use Rattle.std.proofs.Common.{◌≡◌, ◌*ℤ◌, ◌∙◌, lit<}
+use Rattle.std.proofs.Common.{◌*ℤ◌, ◌∙◌, lit<}
 use lib.Signed.{lt_z}
 use Rattle.plane.proofs.Fitting.{read, known, sized, small_product}
 use Rattle.plane.proofs.weighing.dominates.Goals as goal
@@ -12,5 +12,5 @@ product-requires-2 c = small_product (sized c.ranges.a.sfits c.requires.a) (size
 pub returns : goal.returns
 returns c =
     λ i.
-    lt_z (known c.product.type-inv (c.product.ensures.value ∙ (λ j. read c.ranges.c j *ℤ read c.ranges.c j)) i)
-    (known c.product-2.type-inv (c.product-2.ensures.value ∙ (λ j. read c.ranges.a j *ℤ read c.ranges.b j)) i)
+    lt_z (known c.product.type_inv (c.product.ensures.value ∙ (λ j. read c.ranges.c j *ℤ read c.ranges.c j)) i)
+    (known c.product-2.type_inv (c.product-2.ensures.value ∙ (λ j. read c.ranges.a j *ℤ read c.ranges.b j)) i)

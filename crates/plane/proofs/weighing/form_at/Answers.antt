@@ -18,21 +18,21 @@ part-mixed-requires c =
 
 pub sum-squares-requires : goal.sum-squares-requires
 sum-squares-requires c =
-    small_sum (sized c.part.type-inv c.part.ensures.bound) (sized c.part-2.type-inv c.part-2.ensures.bound) (lit< tt)
+    small_sum (sized c.part.type_inv c.part.ensures.bound) (sized c.part-2.type_inv c.part-2.ensures.bound) (lit< tt)
 
 pub sum-requires : goal.sum-requires
 sum-requires c =
-    let mixed = sized c.part-mixed.type-inv c.part-mixed.ensures.bound in
+    let mixed = sized c.part-mixed.type_inv c.part-mixed.ensures.bound in
     small_sum mixed mixed (lit< tt)
 
 pub sum-requires-2 : goal.sum-requires-2
 sum-requires-2 c =
-    let mixed = sized c.part-mixed.type-inv c.part-mixed.ensures.bound in
+    let mixed = sized c.part-mixed.type_inv c.part-mixed.ensures.bound in
     small_sum
-    (sized c.sum-squares.type-inv
-    (c.sum-squares.ensures.bound _ _ (sized c.part.type-inv c.part.ensures.bound)
-    (sized c.part-2.type-inv c.part-2.ensures.bound)))
-    (sized c.sum.type-inv (c.sum.ensures.bound _ _ mixed mixed)) (lit< tt)
+    (sized c.sum-squares.type_inv
+    (c.sum-squares.ensures.bound _ _ (sized c.part.type_inv c.part.ensures.bound)
+    (sized c.part-2.type_inv c.part-2.ensures.bound)))
+    (sized c.sum.type_inv (c.sum.ensures.bound _ _ mixed mixed)) (lit< tt)
 
 twice : (z : ℤ) → z +ℤ z ≡ pos 2 *ℤ z
 twice z = omega (arith, ints)
@@ -41,11 +41,11 @@ pub returns : goal.returns
 returns c =
     let u = c.args.p.u in
     let v = c.args.p.v in
-    let a = known c.part.type-inv (c.part.ensures.value ∙ (λ i. read c.ranges.a i *ℤ pos (u * u))) in
-    let b = known c.part-2.type-inv (c.part-2.ensures.value ∙ (λ i. read c.ranges.b i *ℤ pos (v * v))) in
-    let mixed = known c.part-mixed.type-inv (c.part-mixed.ensures.value ∙ (λ i. read c.ranges.c i *ℤ pos (u * v))) in
-    known c.sum-2.type-inv
+    let a = known c.part.type_inv (c.part.ensures.value ∙ (λ i. read c.ranges.a i *ℤ pos (u * u))) in
+    let b = known c.part-2.type_inv (c.part-2.ensures.value ∙ (λ i. read c.ranges.b i *ℤ pos (v * v))) in
+    let mixed = known c.part-mixed.type_inv (c.part-mixed.ensures.value ∙ (λ i. read c.ranges.c i *ℤ pos (u * v))) in
+    known c.sum-2.type_inv
     (c.sum-2.ensures.value
     ∙ (λ i.
-    known c.sum-squares.type-inv (c.sum-squares.ensures.value ∙ (λ j. a j +ℤ b j)) i
-    +ℤ known c.sum.type-inv (c.sum.ensures.value ∙ (λ j. mixed j +ℤ mixed j) ∙ twice _) i))
+    known c.sum-squares.type_inv (c.sum-squares.ensures.value ∙ (λ j. a j +ℤ b j)) i
+    +ℤ known c.sum.type_inv (c.sum.ensures.value ∙ (λ j. mixed j +ℤ mixed j) ∙ twice _) i))

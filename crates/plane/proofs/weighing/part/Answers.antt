@@ -13,9 +13,9 @@ returns c =
     let most : c.args.x * c.args.y ≤ 4096 * 4096 = mul-le-mul c.requires.x c.requires.y in
     record {
       value =
-          known c.product.type-inv
+          known c.product.type_inv
           (c.product.ensures.value ∙ (λ i. read c.ranges.factor i *ℤ widened {n = c.args.x * c.args.y} (omega arith) i));
       bound =
-          sized c.product.type-inv
+          sized c.product.type_inv
           (c.product.ensures.bound _ _ (sized c.ranges.factor.sfits c.requires.factor) (widened_size (omega arith) most));
     }

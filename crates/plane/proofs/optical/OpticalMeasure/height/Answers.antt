@@ -5,8 +5,8 @@ use Rattle.plane.specs.InPlane.{height_inside, height_outside}
 use Rattle.plane.specs.OpticHeights.{sums}
 use Rattle.plane.proofs.optical.OpticalMeasure.height.Goals as goal
 
-pub returns-then-in-plane : goal.returns-then-in-plane
-returns-then-in-plane c = omega (arith, ints, height_inside sums c.args.p (search rules))
+pub returns-then-in_plane : goal.returns-then-in_plane
+returns-then-in_plane c = omega (arith, ints, height_inside sums c.args.p (search rules))
 
-pub returns-else-in-plane : goal.returns-else-in-plane
-returns-else-in-plane c = omega (arith, ints, height_outside sums c.args.p (search rules))
+pub returns-else-in_plane : goal.returns-else-in_plane
+returns-else-in_plane c = omega (arith, ints, height_outside sums c.args.p (search rules))
