@@ -12,8 +12,8 @@ use crate::rounding::blended;
 // The number of part p that a master has in a row.
 fn number_of<F: Figure>(figures: &[F], master: u8, p: usize) -> i64
     requires { master < length figures.now }
-    ensures value { (past : F) → result ≡ number (slice_index_or figures.now master past) p }
-    ensures ranged { InRange range result }
+    ensures value { (past : F) → result ≡ F.number (slice_index_or figures.now master past) p }
+    ensures ranged { InRange F.range result }
 {
     figures[master as usize].part(p)
 }
@@ -21,8 +21,8 @@ fn number_of<F: Figure>(figures: &[F], master: u8, p: usize) -> i64
 // Part p of a blend.
 fn blended_part<F: Figure>(figures: &[F], mix: &Mix, p: usize) -> i64
     requires { length figures.now ≡ mix.now.count }
-    ensures value { IsBlend (λ f. number f p) figures.now mix.now result }
-    ensures ranged { InRange range result }
+    ensures value { IsBlend (λ f. F.number f p) figures.now mix.now result }
+    ensures ranged { InRange F.range result }
 {
     let [a, b, c] = mix.masters;
     let numbers = [
@@ -36,10 +36,10 @@ fn blended_part<F: Figure>(figures: &[F], mix: &Mix, p: usize) -> i64
 // The blend of a row of figures, one for each master of the family, by a mix.
 pub fn blend<F: Figure>(figures: &[F], mix: &Mix) -> Result<F::Blend, BlendFault>
     ensures refuses { refused blend_refusal result ≡ first (blend_rows (length figures.now) mix.now.count) }
-    ensures blends { IfOk result (λ b. (p : ℕ) → p < parts → IsBlend (λ f. number f p) figures.now mix.now (yielded b p)) }
-    ensures between { IfOk result (λ b. (p : ℕ) → p < parts → LiesBetween (λ f. number f p) figures.now mix.now (yielded b p)) }
-    ensures whole { IfOk result (λ b. (p : ℕ) → p < parts → IsTheOne (λ f. number f p) figures.now mix.now (yielded b p)) }
-    ensures equal { IfOk result (λ b. (p : ℕ) → p < parts → IsTheSame (λ f. number f p) figures.now mix.now (yielded b p)) }
+    ensures blends { IfOk result (λ b. (p : ℕ) → p < F.parts → IsBlend (λ f. F.number f p) figures.now mix.now (F.yielded b p)) }
+    ensures between { IfOk result (λ b. (p : ℕ) → p < F.parts → LiesBetween (λ f. F.number f p) figures.now mix.now (F.yielded b p)) }
+    ensures whole { IfOk result (λ b. (p : ℕ) → p < F.parts → IsTheOne (λ f. F.number f p) figures.now mix.now (F.yielded b p)) }
+    ensures equal { IfOk result (λ b. (p : ℕ) → p < F.parts → IsTheSame (λ f. F.number f p) figures.now mix.now (F.yielded b p)) }
 {
     if figures.len() != mix.count as usize {
         return Err(BlendFault::Figures);

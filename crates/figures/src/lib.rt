@@ -1,5 +1,6 @@
 //! Figures: what a glyph has for each master, and how figures are blended.
 #![tactic(auto)]
+
 mod advance;
 mod blending;
 mod fault;

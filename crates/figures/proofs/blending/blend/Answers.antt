@@ -7,17 +7,17 @@ use Rattle.figures.proofs.Passing.{passed_in_range}
 use Rattle.figures.proofs.blending.blend.Given as given
 use Rattle.figures.proofs.blending.blend.Goals as goal
 
-part_is : (g : given.Over) (c : goal.After-blend-of g) (p : ℕ) → p < g.F.Figure.parts
+part_is : (g : given.Over) (c : goal.After-blend_of g) (p : ℕ) → p < g.F.Figure.parts
     → IsBlend (λ f. g.F.Figure.number f p) c.args.figures.now c.args.mix.now
-    (g.F.Figure.yielded c.blend-of.result p)
+    (g.F.Figure.yielded c.blend_of.result p)
 part_is g c zero l past =
-    let part = c.blended-part-first in
-    c.blend-of.ensures 0 l (passed_in_range g.met.F.Figure.narrow part.ensures.ranged)
-    ∙ known part.type-inv (part.ensures.value past)
+    let part = c.blended_part-first in
+    c.blend_of.ensures 0 l (passed_in_range g.met.F.Figure.narrow part.ensures.ranged)
+    ∙ known part.type_inv (part.ensures.value past)
 part_is g c (suc zero) l past =
-    let part = c.blended-part-second in
-    c.blend-of.ensures 1 l (passed_in_range g.met.F.Figure.narrow part.ensures.ranged)
-    ∙ known part.type-inv (part.ensures.value past)
+    let part = c.blended_part-second in
+    c.blend_of.ensures 1 l (passed_in_range g.met.F.Figure.narrow part.ensures.ranged)
+    ∙ known part.type_inv (part.ensures.value past)
 part_is g c (suc (suc p)) l past = absurd (let few = g.met.F.Figure.shape.few in omega arith)
 
 pub returns : goal.returns

@@ -7,23 +7,23 @@ use Rattle.figures.proofs.Passing.{passed_in_range, sized_passed}
 use Rattle.figures.proofs.blending.blended_part.Goals as goal
 
 pub blended-requires : goal.blended-requires
-blended-requires g c κs zero l = sized_passed g.met.F.Figure.narrow c.number-of.ensures.ranged
-blended-requires g c κs (suc zero) l = sized_passed g.met.F.Figure.narrow c.number-of-2.ensures.ranged
-blended-requires g c κs (suc (suc zero)) l = sized_passed g.met.F.Figure.narrow c.number-of-3.ensures.ranged
-blended-requires g c κs (suc (suc (suc i))) l = absurd (omega arith)
+blended-requires g c zero l = sized_passed g.met.F.Figure.narrow c.number_of.ensures.ranged
+blended-requires g c (suc zero) l = sized_passed g.met.F.Figure.narrow c.number_of-2.ensures.ranged
+blended-requires g c (suc (suc zero)) l = sized_passed g.met.F.Figure.narrow c.number_of-3.ensures.ranged
+blended-requires g c (suc (suc (suc i))) l = absurd (omega arith)
 
 pub returns : goal.returns
 returns g c =
-    let value = known c.blended.type-inv c.blended.ensures in
+    let value = known c.blended.type_inv c.blended.ensures in
     let narrow = g.met.F.Figure.narrow in
     record {
       value = λ past. value ∙ by_three c.args.mix.now _ _
-          (known c.number-of.type-inv (c.number-of.ensures.value past))
-          (known c.number-of-2.type-inv (c.number-of-2.ensures.value past))
-          (known c.number-of-3.type-inv (c.number-of-3.ensures.value past));
+          (known c.number_of.type_inv (c.number_of.ensures.value past))
+          (known c.number_of-2.type_inv (c.number_of-2.ensures.value past))
+          (known c.number_of-3.type_inv (c.number_of-3.ensures.value past));
       ranged = subst (λ (z : ℤ). InRange g.F.Figure.range z) (sym value)
           (in_range c.args.mix.now _ g.F.Figure.range
-          (passed_in_range narrow c.number-of.ensures.ranged)
-          (passed_in_range narrow c.number-of-2.ensures.ranged)
-          (passed_in_range narrow c.number-of-3.ensures.ranged));
+          (passed_in_range narrow c.number_of.ensures.ranged)
+          (passed_in_range narrow c.number_of-2.ensures.ranged)
+          (passed_in_range narrow c.number_of-3.ensures.ranged));
     }

@@ -13,8 +13,8 @@ pub returns : goal.returns
 unfolding blended_number
 returns c =
     let total = c.args.mix.now.total in
-    let sum = known c.weighted-sum-sum.type-inv c.weighted-sum-sum.ensures.value in
-    let raised = known c.raised.type-inv (c.raised.ensures ∙ (λ i. pos 2 *ℤ sum i +ℤ pos total)) in
-    let doubled = known c.doubled.type-inv c.doubled.ensures in
-    known c.floor-quotient.type-inv
-    (c.floor-quotient.ensures ∙ (λ i. int_div_euclid (raised i) (doubled i)) ∙ quotient _ (2 * total))
+    let sum = known c.weighted_sum-sum.type_inv c.weighted_sum-sum.ensures.value in
+    let raised = known c.raised.type_inv (c.raised.ensures ∙ (λ i. pos 2 *ℤ sum i +ℤ pos total)) in
+    let doubled = known c.doubled.type_inv c.doubled.ensures in
+    known c.floor_quotient.type_inv
+    (c.floor_quotient.ensures ∙ (λ i. int_div_euclid (raised i) (doubled i)) ∙ quotient _ (2 * total))

@@ -16,8 +16,8 @@ small c =
     let s = abs_mul_le (pos c.args.weight) c.args.number c.requires.weight c.requires.number.size in
     subst (λ (z : ℤ). Size z 1099511627776) (sym (exact c)) (record { size = omega arith })
 
-pub overflow-mul-result : goal.overflow-mul-result
-overflow-mul-result c = fits (small c) (lit< tt)
+pub overflow_mul-result : goal.overflow_mul-result
+overflow_mul-result c = fits (small c) (lit< tt)
 
 pub returns : goal.returns
 returns c = record { value = known (fits (small c) (lit< tt)).sfits (exact c); bound = sized (fits (small c) (lit< tt)).sfits (small c) }

@@ -16,8 +16,8 @@ small c =
     subst (λ (z : ℤ). Size z 4398046511104) (sym (summed c))
     (three_size c.term.ensures.bound c.term-2.ensures.bound c.term-3.ensures.bound)
 
-pub overflow-add-result-2 : goal.overflow-add-result-2
-overflow-add-result-2 c = fits (small c) (lit< tt)
+pub overflow_add-result-2 : goal.overflow_add-result-2
+overflow_add-result-2 c = fits (small c) (lit< tt)
 
 pub returns : goal.returns
 returns c =

@@ -10,6 +10,6 @@ passed : {x r : ℤ} → mag r < 32768 → (InRange pair_range (to_z w64 (of_z w
 passed fits same in_range = let e = same (omega (arith, ints)) in omega (arith, ints)
 
 pub returns : goal.returns
-returns c zero l k = passed c.narrowed.type-inv c.narrowed.ensures k
-returns c (suc zero) l k = passed c.narrowed-2.type-inv c.narrowed-2.ensures k
+returns c zero l k = passed c.narrowed.type_inv c.narrowed.ensures k
+returns c (suc zero) l k = passed c.narrowed-2.type_inv c.narrowed-2.ensures k
 returns c (suc (suc p)) l k = absurd (omega arith)
