@@ -1,5 +1,6 @@
 //! Sheets: the byte format in which a type family is delivered.
 #![tactic(auto)]
+
 mod checking;
 mod fault;
 mod heading;

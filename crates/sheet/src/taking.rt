@@ -14,7 +14,7 @@ use figures::Figure;
 
 // The section in which the rows of a kind stand.
 fn section_of<F: Figure>() -> Section
-    ensures { result ≡ section_of headings }
+    ensures { result ≡ section_of F.headings }
 {
     match F::heads() {
         1 => Section::Advances,
@@ -34,8 +34,8 @@ fn start_of(bytes: &[u8], section: Section, k: usize) -> usize
 
 // The glyph numbers at the head of a row of a kind.
 fn heading_of<F: Figure>(bytes: &[u8], start: usize) -> Heading
-    requires { start + 2 * headings ≤ length bytes.now }
-    ensures { result ≡ heading_at bytes.now headings start }
+    requires { start + 2 * F.headings ≤ length bytes.now }
+    ensures { result ≡ heading_at bytes.now F.headings start }
 {
     let first = number_at(bytes, start);
     match F::heads() {
@@ -47,8 +47,8 @@ fn heading_of<F: Figure>(bytes: &[u8], start: usize) -> Heading
 // Takes the figures that stand from a place on into the first n places of the buffer.
 fn take_figures<F: Figure>(bytes: &[u8], place: usize, n: usize, buffer: &mut [F])
     requires room { n ≤ length buffer.old }
-    requires within { place + n * F.Figure.bytes ≤ length bytes.now }
-    ensures { Taken number meant F.Figure.bytes bytes.now place n
+    requires within { place + n * F.bytes ≤ length bytes.now }
+    ensures { Taken F.number F.meant F.bytes bytes.now place n
         buffer.old buffer.new }
 {
     for i in 0..n {
@@ -66,10 +66,10 @@ impl<'a> Sheet<'a> {
 
     // Takes row k of a kind into a buffer that has room for it, and answers its glyph numbers.
     fn take_row<F: Figure>(&self, k: usize, figures: &mut [F]) -> Heading
-        requires counted { k < count self.now.bytes.now (section_of headings) }
+        requires counted { k < count self.now.bytes.now (section_of F.headings) }
         requires room { masters self.now.bytes.now ≤ length figures.old }
-        ensures heading { result ≡ row_heading headings self.now.bytes.now k }
-        ensures taken { RowTaken number meant bytes headings self.now.bytes.now k
+        ensures heading { result ≡ row_heading F.headings self.now.bytes.now k }
+        ensures taken { RowTaken F.number F.meant F.bytes F.headings self.now.bytes.now k
             figures.old figures.new }
     {
         let start = start_of(self.bytes, section_of::<F>(), k);
@@ -81,10 +81,10 @@ impl<'a> Sheet<'a> {
     // glyph numbers; else says why not, and leaves the buffer.
     pub fn row<F: Figure>(&self, k: usize, figures: &mut [F]) -> Result<Heading, RowFault>
         ensures refuses { refused row_refusal result
-            ≡ first (taking_rows self.now.bytes.now (section_of headings) k
+            ≡ first (taking_rows self.now.bytes.now (section_of F.headings) k
             (length figures.old)) }
-        ensures heading { IfOk result (λ h. h ≡ row_heading headings self.now.bytes.now k) }
-        ensures taken { OnOk result (RowTaken number meant bytes headings self.now.bytes.now k
+        ensures heading { IfOk result (λ h. h ≡ row_heading F.headings self.now.bytes.now k) }
+        ensures taken { OnOk result (RowTaken F.number F.meant F.bytes F.headings self.now.bytes.now k
             figures.old figures.new) }
         ensures untouched { OnErr result (figures.new ≡ figures.old) }
     {

@@ -7,8 +7,8 @@ use Rattle.sheet.proofs.checking.check_bytes.Goals as goal
 
 pub returns : goal.returns
 returns c =
-    let told : refused sheet_refusal c.check-rows.result ≡ sheet_refused c.args.bytes.now =
-    c.check-rows.ensures ∙ sym (sheet_refused_is _)
+    let told : refused sheet_refusal c.check_rows.result ≡ sheet_refused c.args.bytes.now =
+    c.check_rows.ensures ∙ sym (sheet_refused_is _)
     in
-    let decides = accepted _ c.check-rows.result told in
-    record { accepts = decides; refuses = told; lawful = lawful _ c.check-rows.result decides }
+    let decides = accepted _ c.check_rows.result told in
+    record { accepts = decides; refuses = told; lawful = lawful _ c.check_rows.result decides }

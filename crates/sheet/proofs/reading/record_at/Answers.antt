@@ -3,8 +3,8 @@ use Rattle.std.proofs.Common.{arith}
 use Rattle.sheet.proofs.Accepted.{kept, record_within}
 use Rattle.sheet.proofs.reading.record_at.Goals as goal
 
-pub number-at-u-requires : goal.number-at-u-requires
-number-at-u-requires c = omega (arith, record_within _ c.args.k (kept _ c.requires.lawful) c.requires.counted)
+pub number_at-u-requires : goal.number_at-u-requires
+number_at-u-requires c = omega (arith, record_within _ c.args.k (kept _ c.requires.lawful) c.requires.counted)
 
-pub number-at-v-requires : goal.number-at-v-requires
-number-at-v-requires c = omega (arith, record_within _ c.args.k (kept _ c.requires.lawful) c.requires.counted)
+pub number_at-v-requires : goal.number_at-v-requires
+number_at-v-requires c = omega (arith, record_within _ c.args.k (kept _ c.requires.lawful) c.requires.counted)

@@ -9,5 +9,5 @@ fresh_keeps : KeepsLayout fresh_sheet
 unfolding sheet_refused
 fresh_keeps = keeps_unrefused fresh_sheet refl
 
-pub invariant-of-result : goal.invariant-of-result
-invariant-of-result c = (rw c.fresh-bytes.ensures (∣ fresh_keeps ∣₁), tt)
+pub invariant_of-result : goal.invariant_of-result
+invariant_of-result c = record { lawful = rw c.fresh_bytes.ensures (∣ fresh_keeps ∣₁) }
