@@ -1,5 +1,5 @@
 -- One edge more in the hole.
-use Rattle.std.proofs.Common.{◌≡◌, ℕ, ◌+◌, ◌<◌, ◌≤◌, List, [], ◌∷◌, ◌++◌, length, set, ap, ◌∙◌, arith, length-set}
+use Rattle.std.proofs.Common.{◌≡◌, ◌+◌, ◌<◌, ◌≤◌, List, [], ◌∷◌, ◌++◌, length, set, ap, ◌∙◌, arith, length-set}
 use Rattle.std.proofs.lemmas.List.{take_more_set, length_push}
 use Rattle.mesh.specs.declared.edge.Edge.{Edge}
 use Rattle.mesh.specs.declared.hole.Hole.{Hole}

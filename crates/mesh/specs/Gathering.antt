@@ -1,5 +1,5 @@
 -- The hole as the code keeps it: all its edges are counted, and kept as long as there is room for their nodes.
-use Rattle.std.specs.Prelude.{◌≡◌, ℕ, ◌≤◌, List, length, take}
+use Rattle.std.specs.Prelude.{◌≡◌, ◌≤◌, List, length, take}
 use Rattle.mesh.specs.declared.edge.Edge.{Edge}
 use Rattle.mesh.specs.declared.hole.Hole.{Hole}
 

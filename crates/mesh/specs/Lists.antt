@@ -1,7 +1,5 @@
 -- The tables without their filler: the masters and the nodes that are in use.
-use Rattle.std.specs.Prelude.{List, take}
-use Rattle.plane.specs.declared.position.Position.{Position}
-use Rattle.mesh.specs.declared.node.Node.{Node}
+use Rattle.std.specs.Prelude.{take}
 use Rattle.mesh.specs.declared.tables.Tables.{Tables}
 use Rattle.mesh.specs.Tree.{Mesh}
 

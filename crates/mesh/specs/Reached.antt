@@ -1,5 +1,5 @@
 -- The walk through the tree: which nodes are reached for a position.
-use Rattle.std.specs.Prelude.{◌≡◌, ℕ, ◌<◌, true, length, Some, None, Option, slice_index_or}
+use Rattle.std.specs.Prelude.{◌≡◌, ℕ, ◌<◌, true, length, Some, None, slice_index_or}
 use Rattle.plane.specs.declared.position.Position.{Position}
 use Rattle.plane.specs.Measures.{Heights}
 use Rattle.mesh.specs.Placing.{holds}

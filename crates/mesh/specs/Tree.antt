@@ -1,5 +1,5 @@
 -- The tree of a family, by its lists of masters and of nodes.
-use Rattle.std.specs.Prelude.{ℕ, Bool, cond, List, [], ◌∷◌, ℤ, ◌+ℤ◌, Some, None, Option, int_le}
+use Rattle.std.specs.Prelude.{ℕ, Bool, cond, List, [], ◌∷◌, ◌+ℤ◌, Some, None, Option, int_le}
 use Rattle.plane.specs.declared.position.Position.{Position}
 use Rattle.plane.specs.Measures.{Heights}
 use Rattle.mesh.specs.declared.node.Node.{Node}

@@ -1,5 +1,6 @@
 //! The Delaunay tree of a family: every triangle ever made, with its fathers, sons, neighbours and killers.
 #![tactic(auto)]
+
 mod beginning;
 mod changing;
 mod edge;

@@ -9,7 +9,7 @@ returns c =
     let used = c.args.used in
     let edge = c.args.edge.now in
     let new = c.args.node ∷ [] in
-    take_more_set c.give-neighbour.new.nodes used c.args.node (omega (arith, c.give-neighbour.auto, c.give-son.auto))
-    ∙ ap (λ (ns : List Node). ns ++ new) (c.give-neighbour.ensures used)
+    take_more_set c.give_neighbour.new.nodes used c.args.node (omega (arith, c.give_neighbour.auto, c.give_son.auto))
+    ∙ ap (λ (ns : List Node). ns ++ new) (c.give_neighbour.ensures used)
     ∙ ap (λ (ns : List Node). changed_if (with_neighbour edge.from edge.to used) edge.beyond ns ++ new)
-    (c.give-son.ensures used)
+    (c.give_son.ensures used)

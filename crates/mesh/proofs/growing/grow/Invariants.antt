@@ -1,4 +1,4 @@
-use Rattle.std.proofs.Common.{◌≡◌, ◌+◌, length, take, drop}
+use Rattle.std.proofs.Common.{◌≡◌, ◌+◌, take, drop}
 use Rattle.mesh.specs.Placing.{grown}
 use Rattle.mesh.proofs.growing.grow.Given as goal
 

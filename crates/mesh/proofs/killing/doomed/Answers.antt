@@ -1,4 +1,4 @@
-use Rattle.std.proofs.Common.{◌≡◌, ◌<◌, [], ◌∷◌, ◌++◌, map, length, take, sym, ap, ◌∙◌, arith, length-set}
+use Rattle.std.proofs.Common.{◌≡◌, length, arith, length-set}
 use Rattle.std.proofs.lemmas.List.{take_more_set, map_more, take_all}
 use Rattle.mesh.specs.Placing.{kills, no_node}
 use Rattle.mesh.proofs.killing.doomed.Goals as goal
@@ -10,9 +10,9 @@ loop-i-preserved g c = (
   λ housed inside.
       let i = c.loop-i.i in
       let test = kills (g.M.Measure.heights c.args.measure.now) c.args.masters.now c.args.p in
-      let written = take_more_set c.loop-i.out i c.is-killed.result (omega (arith, c.loop-i.invariant.0)) in
+      let written = take_more_set c.loop-i.out i c.is_killed.result (omega (arith, c.loop-i.invariant.0)) in
       let before = c.loop-i.invariant.1 housed inside in
-      let here = c.is-killed.ensures housed inside in
+      let here = c.is_killed.ensures housed inside in
       let all = map_more test c.args.nodes.now i no_node (omega arith) in
       cc,
 )

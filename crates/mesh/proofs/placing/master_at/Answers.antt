@@ -1,4 +1,4 @@
-use Rattle.std.proofs.Common.{ℕ, Bool, Some, Option, sym, ap, ◌∙◌, zero-add, arith}
+use Rattle.std.proofs.Common.{ℕ, Bool, Some, sym, ap, ◌∙◌, zero-add, arith}
 use Rattle.plane.specs.declared.position.Position.{Position}
 use Rattle.mesh.specs.Refusals.{same_position}
 use Rattle.mesh.specs.Tree.{corner}

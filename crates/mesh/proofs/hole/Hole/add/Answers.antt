@@ -4,18 +4,18 @@ use Rattle.mesh.specs.declared.hole.Hole.{Hole}
 use Rattle.mesh.specs.Gathering.{Gathered}
 use Rattle.mesh.proofs.Gathered.{gathered_more, gathered_past}
 use Rattle.mesh.proofs.hole.Hole.add.Goals as goal
-use Rattle.mesh.proofs.hole.Hole.add.Goals.{then-self-lt-MOST-NODES, else-self-lt-MOST-NODES}
+use Rattle.mesh.proofs.hole.Hole.add.Goals.{then-self-lt-MOST_NODES, else-self-lt-MOST_NODES}
 
 pub returns : goal.returns
 returns c =
     let after : List Edge → Hole → Type 0 = λ es s. Gathered (record { edges = s.edges; count = s.count + 1 }) (es ++ c.args.edge ∷ []) in
     let more = λ (s : Hole). s.count + 1 in
-    elim c.if-self-lt-MOST-NODES.branch [
-      | then-self-lt-MOST-NODES w ↦ record {
+    elim c.if-self-lt-MOST_NODES.branch [
+      | then-self-lt-MOST_NODES w ↦ record {
         gathered = λ es h. subst (after es) (sym w.self-is) (gathered_more c.args.self.now es c.args.edge h (omega arith));
         more = ap more w.self-is;
       }
-      | else-self-lt-MOST-NODES w ↦ record {
+      | else-self-lt-MOST_NODES w ↦ record {
         gathered = λ es h. subst (after es) (sym w.self-is) (gathered_past c.args.self.now es c.args.edge h (omega arith));
         more = ap more w.self-is;
       }

@@ -1,4 +1,4 @@
-use Rattle.std.proofs.Common.{List, ◌++◌, append_assoc, arith}
+use Rattle.std.proofs.Common.{◌++◌, append_assoc, arith}
 use Rattle.mesh.specs.Placing.{side_edges}
 use Rattle.mesh.proofs.hole.Hole.add_node.Goals as goal
 
@@ -8,9 +8,9 @@ returns c =
       gathered =
           λ es h.
           let sides = side_edges c.args.doomed.now c.args.number c.args.node.now in
-          let one = c.add-side.ensures.gathered es h in
-          let two = c.add-side-2.ensures.gathered (es ++ sides 0) one in
-          let three = c.add-side-3.ensures.gathered ((es ++ sides 0) ++ sides 1) two in
+          let one = c.add_side.ensures.gathered es h in
+          let two = c.add_side-2.ensures.gathered (es ++ sides 0) one in
+          let three = c.add_side-3.ensures.gathered ((es ++ sides 0) ++ sides 1) two in
           simp append_assoc at three;
       most = omega arith;
     }

@@ -4,4 +4,4 @@ use Rattle.mesh.proofs.tables.Tables.fresh.Goals as goal
 
 pub returns : goal.returns
 unfolding fresh
-returns g c = λ i. record { masters = corners; nodes = (c.first-pair.ensures ∙ ap first_nodes c.is-flat.ensures) i }
+returns g c = λ i. record { masters = corners; nodes = (c.first_pair.ensures ∙ ap first_nodes c.is_flat.ensures) i }

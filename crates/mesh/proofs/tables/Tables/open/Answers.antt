@@ -1,4 +1,4 @@
-use Rattle.std.proofs.Common.{◌≡◌, ℕ, ◌+◌, ◌≤◌, List, length, take, sym, ap, ◌∙◌, arith}
+use Rattle.std.proofs.Common.{◌≡◌, ℕ, List, length, take, sym, ap, ◌∙◌, arith}
 use borrow.Author.Tests.{clash}
 use Rattle.std.proofs.lemmas.Bool.Decides.{nat_tests}
 use Rattle.mesh.specs.declared.node.Node.{Node}
@@ -21,7 +21,7 @@ returns c =
     let own_front = ap (λ (n : ℕ). take n t.nodes) used ∙ take_own t.used t.nodes in
     let front_masters = take_own t.count t.positions in
     record {
-      refuses = grind (arith, nat_tests, used, counted, c.if-used-hole-gt-MOST-NODES.false);
+      refuses = grind (arith, nat_tests, used, counted, c.if-used-hole-gt-MOST_NODES.false);
       places = record {
         number = ap length masters;
         masters = cc;

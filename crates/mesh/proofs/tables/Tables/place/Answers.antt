@@ -1,12 +1,12 @@
-use Rattle.std.proofs.Common.{◌≡◌, List, map, length, take, None, Option, sym, ap, ◌∙◌, subst}
+use Rattle.std.proofs.Common.{◌≡◌, List, map, length, take, None, sym, ap, ◌∙◌, subst}
 use Rattle.std.proofs.lemmas.Result.{IfOk-weaker}
 use Rattle.plane.specs.declared.position.Position.{Position}
-use Rattle.plane.specs.Refusal.{Refusal, first, refused}
+use Rattle.plane.specs.Refusal.{first}
 use Rattle.mesh.specs.declared.node.Node.{Node}
 use Rattle.mesh.specs.Lists.{in_use}
 use Rattle.mesh.specs.Opened.{Opened, Placed}
 use Rattle.mesh.specs.Placing.{kills, Housed}
-use Rattle.mesh.specs.Refusals.{master_rows, place_refusal}
+use Rattle.mesh.specs.Refusals.{master_rows}
 use Rattle.mesh.proofs.Admitted.{admitted_inside, place_refuses, place_places}
 use Rattle.mesh.proofs.tables.Tables.place.Goals as goal
 
@@ -16,7 +16,7 @@ returns g c =
     let p = c.args.p in
     let h = g.M.Measure.heights c.args.measure.now in
     let admitted : None ≡ first (master_rows m.masters p) =
-    c.in-ok-admit.ensures ∙ ap (λ (ms : List Position). first (master_rows ms p)) c.masters.ensures.value
+    c.in_ok-admit.ensures ∙ ap (λ (ms : List Position). first (master_rows ms p)) c.masters.ensures.value
     in
     let killed : Housed m.masters → c.front.result.now ≡ map (kills h m.masters p) m.nodes =
     λ housed.
