@@ -1,5 +1,6 @@
 //! The program `instances`: says of the sheet in the file family.sheet whether it is refused.
 #![tactic(auto)]
+
 use std::{fs, io};
 
 mod listing;

@@ -1,12 +1,11 @@
 -- The tree of every family is sound, by induction over its masters, and so it keeps the laws.
-use Rattle.std.proofs.Common.{ℕ, ◌<◌, List, [], ◌∷◌, ◌++◌, length, sym, ap, arith}
-use Rattle.std.proofs.lemmas.List.{length-append}
+use Rattle.std.proofs.Common.{List}
 use Rattle.plane.specs.declared.position.Position.{Position}
 use Rattle.plane.specs.Measures.{Heights, Supported}
 use Rattle.plane.specs.Plane.{Within}
 use Rattle.mesh.specs.Placing.{placed, tree}
-use Rattle.mesh.specs.Tree.{Mesh, fresh, corners}
-use Rattle.mesh_laws.specs.Laws.{Placeable, Free, Lawful, Laws, PlacingLaws}
+use Rattle.mesh.specs.Tree.{Mesh}
+use Rattle.mesh_laws.specs.Laws.{Placeable, Laws, PlacingLaws}
 use Rattle.mesh_laws.specs.Places.{table}
 use Rattle.mesh_laws.specs.Sound.{Sound}
 use Rattle.mesh_laws.specs.Steps.{Step}

@@ -1,6 +1,5 @@
 -- A family of two placed masters, of which the laws speak.
-use Rattle.std.proofs.Common.{◌≡◌, ℕ, zero, suc, ◌<◌, List, [], ◌∷◌, length, get_or, ap, arith}
-use Rattle.plane.specs.declared.position.Position.{Position}
+use Rattle.std.proofs.Common.{◌≡◌, ℕ, zero, suc, ◌<◌, length, get_or, ap, arith}
 use Rattle.plane.specs.Plane.{Within}
 use Rattle.mesh.specs.Tree.{corner}
 use Rattle.mesh_laws.specs.Laws.{Placeable, sample}

@@ -1,5 +1,5 @@
 -- The laws of a family's tree, in the words of the plane.
-use Rattle.std.specs.Prelude.{◌≡◌, ℕ, ◌<◌, ◌≤◌, true, ◌≢◌, ◌⊎◌, List, [], ◌∷◌, length, get_or, ℤ, pos, ◌+ℤ◌, ◌-ℤ◌, ◌*ℤ◌, ◌≤ℤ◌, Some, None, Option, slice_index_or}
+use Rattle.std.specs.Prelude.{◌≡◌, ℕ, ◌<◌, ◌≤◌, true, ◌≢◌, List, [], ◌∷◌, length, get_or, ℤ, pos, ◌-ℤ◌, ◌*ℤ◌, ◌≤ℤ◌, Some, None, slice_index_or}
 use Rattle.plane.specs.declared.position.Position.{Position}
 use Rattle.plane.specs.Plane.{InPlane, Within, turn, Left, Around}
 use Rattle.plane.specs.Measures.{Heights, Supported}
@@ -10,7 +10,7 @@ use Rattle.algebra.specs.Sums.{sum, only}
 use Rattle.mesh.specs.Placing.{stand, start, finish, across, live, holds, placed, tree}
 use Rattle.mesh.specs.Reached.{Reached}
 use Rattle.mesh.specs.Tree.{Mesh, corner}
-use Rattle.mesh_laws.specs.Sound.{MissesAt, Sound}
+use Rattle.mesh_laws.specs.Sound.{MissesAt}
 use Rattle.mesh_laws.specs.Steps.{Step}
 
 -- Masters that placings accept one after the other: each is inside the plane, and no two stand at one position.

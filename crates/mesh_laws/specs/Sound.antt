@@ -1,5 +1,5 @@
 -- A sound tree: what holds of the tree of every family, and what placing keeps.
-use Rattle.std.specs.Prelude.{◌≡◌, ℕ, ◌<◌, ◌≤◌, true, ◌≢◌, ◌⊎◌, List, [], ◌∷◌, ◌++◌, length, get_or, ℤ, ◌+ℤ◌, Some, None, Option}
+use Rattle.std.specs.Prelude.{◌≡◌, ℕ, ◌<◌, ◌≤◌, true, ◌≢◌, ◌⊎◌, List, ◌++◌, length, ℤ, ◌+ℤ◌, Some, None, Option}
 use Rattle.plane.specs.declared.position.Position.{Position}
 use Rattle.plane.specs.Plane.{InPlane, Left}
 use Rattle.plane.specs.Measures.{Heights}

@@ -1,10 +1,10 @@
 -- Placing, entry by entry: what stands at each old node and at each new one.
-use Rattle.std.specs.Prelude.{◌≡◌, ℕ, ◌+◌, ◌/◌, ◌%◌, ◌<◌, ◌≤◌, true, false, cond, List, [], ◌∷◌, ◌++◌, length, Some, None, Option, slice_index_or}
+use Rattle.std.specs.Prelude.{◌≡◌, ℕ, ◌+◌, ◌/◌, ◌%◌, ◌<◌, true, false, cond, [], ◌∷◌, ◌++◌, length, Some, None, slice_index_or}
 use Rattle.plane.specs.declared.position.Position.{Position}
 use Rattle.plane.specs.Measures.{Heights}
 use Rattle.algebra.specs.Placing.{Placed, Linked, Kills, Fresh, born, base}
 use Rattle.mesh.specs.Owner.{node}
-use Rattle.mesh.specs.Placing.{start, across, live, placed}
+use Rattle.mesh.specs.Placing.{start, across, live}
 use Rattle.mesh.specs.Tree.{Mesh}
 use Rattle.mesh_laws.specs.Places.{table, killed, flat, entry_at}
 

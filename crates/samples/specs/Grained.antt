@@ -1,6 +1,6 @@
 -- A measure that is neither a form nor a table: twice the squared distance from the corner, and a grain of 1 where both coordinates
 -- are odd.
-use Rattle.std.specs.Prelude.{ℕ, ◌+◌, ◌*◌, ◌%◌, cond, ◌&&◌, eqb, pos}
+use Rattle.std.specs.Prelude.{ℕ, ◌+◌, ◌*◌, ◌%◌, pos}
 use Rattle.plane.specs.Measures.{Heights, only_in_plane}
 use Rattle.plane.specs.declared.position.Position.{Position}
 

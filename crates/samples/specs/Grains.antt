@@ -1,12 +1,12 @@
 -- The laws of the grained measure: a step away gains 4 or more from the squares, and loses at most 2 by the grain.
-use Rattle.std.specs.Prelude.{◌≡◌, ℕ, ◌+◌, ◌*◌, ◌%◌, ◌≤◌, ◌≢◌, [], ◌∷◌, ℤ, pos, ◌+ℤ◌, ◌-ℤ◌, ◌*ℤ◌, ◌≤ℤ◌, ◌<ℤ◌, refl}
-use Rattle.std.proofs.Common.{sym, subst, ◌∙◌, mul-le-mul, arith}
+use Rattle.std.specs.Prelude.{◌≡◌, ℕ, ◌%◌, ◌≤◌, ◌≢◌, [], ◌∷◌, ℤ, pos, ◌+ℤ◌, ◌-ℤ◌, ◌*ℤ◌, ◌≤ℤ◌, ◌<ℤ◌}
+use Rattle.std.proofs.Common.{sym, subst, mul-le-mul, arith}
 use Rattle.std.proofs.Math.Decide.{ℕ_discrete}
 use Rattle.std.proofs.lemmas.Int.{ints}
 use Rattle.algebra.proofs.Polynomials.{Expr, var, lit, ◌⊕◌, ◌⊗◌, ◌⊖◌, solve}
 use Rattle.algebra.proofs.Signs.{square_nonneg, square_pos}
-use Rattle.plane.specs.Measures.{Heights, Height, Support, Supported, Bounded, excess}
-use Rattle.plane.specs.Plane.{InPlane, along_u, along_v}
+use Rattle.plane.specs.Measures.{Supported, Bounded, excess}
+use Rattle.plane.specs.Plane.{along_u, along_v}
 use Rattle.plane.specs.declared.position.Position.{Position}
 use Rattle.plane.specs.InPlane.{bounded_in_plane, support_in_plane}
 use Rattle.plane.specs.LiveTriangles.{same_position}

@@ -2,7 +2,6 @@
 use Rattle.std.specs.Prelude.{ℕ, Bool, true, false, ◌&&◌, List, [], ◌∷◌, map, pos, Some, None, Option, ◌==◌, slice_index_or}
 use Rattle.plane.specs.Measures.{Heights}
 use Rattle.plane.specs.Weighted.{weighted_height}
-use Rattle.plane.specs.declared.position.Position.{Position}
 use Rattle.mesh.specs.Placing.{tree}
 use Rattle.mesh.specs.Tree.{Mesh, corner, fresh, born}
 use Rattle.mesh.specs.declared.node.Node.{Node}

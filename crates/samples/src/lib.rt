@@ -1,5 +1,6 @@
 //! Executed examples: tables of cases, each with the answer that the documents give it.
 #![tactic(auto)]
+
 mod bearing;
 #[cfg(test)]
 mod blends;
