@@ -1,13 +1,13 @@
 -- Questions: the node that answers is the owner, and there is one.
-use Rattle.std.proofs.Common.{◌≡◌, ℕ, zero, suc, ◌<◌, Bool, true, false, List, [], ◌∷◌, ◌++◌, map, length, get_or, ℤ, pos, sym, refl, ap, ◌∙◌, subst, arith}
+use Rattle.std.proofs.Common.{◌≡◌, ℕ, zero, suc, ◌<◌, List, [], ◌∷◌, map, length, get_or, ℤ, pos, sym, refl, ap, ◌∙◌, subst, arith}
 use Rattle.std.proofs.lemmas.List.{append-nil}
 use Rattle.plane.specs.declared.position.Position.{Position}
 use Rattle.plane.specs.Measures.{Heights, Supported}
-use Rattle.plane.specs.Plane.{InPlane, Within}
+use Rattle.plane.specs.Plane.{Within}
 use Rattle.figures.specs.declared.mix.Mix.{Mix}
 use Rattle.mesh.specs.Lists.{in_use}
-use Rattle.mesh.specs.Owner.{node, vertex, LiveNode, OwnsAt, Owner}
-use Rattle.mesh.specs.Placing.{Housed, stand, start, tree}
+use Rattle.mesh.specs.Owner.{OwnsAt, Owner}
+use Rattle.mesh.specs.Placing.{stand, tree}
 use Rattle.mesh.specs.Tree.{Mesh}
 use Rattle.mesh.specs.declared.tables.Tables.{Tables}
 use Rattle.mesh_laws.specs.Laws.{Lawful, weights_at}
@@ -15,7 +15,7 @@ use Rattle.mesh_laws.specs.Steps.{AllFormed}
 use Rattle.mesh_laws.proofs.Families.{sound_tree, laws}
 use Rattle.family.specs.Calls as call
 use Rattle.family.specs.Calls.{Made, Stepped, Asked, Replies}
-use Rattle.family.specs.Finding.{Answers, MixOf, AnsweredBy, Unanswered, ShowsOnly}
+use Rattle.family.specs.Finding.{AnsweredBy, Unanswered, ShowsOnly}
 use Rattle.family.specs.Mixes.{mixture, mix_at}
 use Rattle.family.specs.Refusals.{question_refusal}
 use Rattle.family.specs.declared.fault.QuestionFault.TheVariants.{NotInside}

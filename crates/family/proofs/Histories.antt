@@ -1,13 +1,8 @@
 -- A history goes on: where the law held before an allowed call, it holds after it.
-use Rattle.std.proofs.Common.{◌≡◌, ℕ, suc, Bool, true, List, [], ◌∷◌, ◌++◌, length, sym, refl, ap, ◌∙◌, subst, append_assoc, arith}
+use Rattle.std.proofs.Common.{◌≡◌, true, List, [], ◌∷◌, ◌++◌, length, sym, refl, ap, ◌∙◌, subst, append_assoc, arith}
 use Rattle.std.proofs.lemmas.List.{append-nil, length-append, same_from_push}
-use Rattle.plane.specs.declared.position.Position.{Position}
 use Rattle.plane.specs.Measures.{Heights, Supported}
-use Rattle.mesh.specs.Lists.{in_use}
-use Rattle.mesh.specs.Placing.{tree}
-use Rattle.mesh.specs.Tree.{Mesh, corners}
 use Rattle.mesh.specs.declared.tables.Tables.{Tables}
-use Rattle.mesh_laws.specs.Laws.{Lawful}
 use Rattle.mesh_laws.proofs.Families.{laws}
 use Rattle.mesh_laws.proofs.Trees.{by_last, tree_masters}
 use Rattle.family.specs.Calls.{Deed, Outcome, Made, Stepped, gains}

@@ -1,15 +1,15 @@
 -- Which positions placing accepts: where no row applies, the position is inside and no master stands there.
-use Rattle.std.proofs.Common.{◌≡◌, ℕ, zero, suc, ◌+◌, ◌<◌, ◌≤◌, Bool, true, false, cond, not, ◌&&◌, eqb, ltb, ◌≢◌, ◌⊎◌, List, [], ◌∷◌, ◌++◌, length, get_or, is_some, Some, None, Option, sym, refl, ap, ◌∙◌, subst, inl, inr, arith, ltb-true, eq-eqb}
+use Rattle.std.proofs.Common.{◌≡◌, ℕ, zero, suc, ◌+◌, ◌<◌, ◌≤◌, Bool, true, false, cond, ltb, ◌≢◌, ◌⊎◌, List, [], ◌∷◌, ◌++◌, length, get_or, is_some, Some, None, Option, sym, refl, ◌∙◌, inl, inr, arith, ltb-true, eq-eqb}
 use borrow.Author.Tests.{both_ways, clash, not-false}
 use Rattle.std.proofs.lemmas.List.{get_or_append_left, get_or_push, length_push}
 use Rattle.std.proofs.lemmas.Bool.{and_parts, cases_lt}
 use Rattle.plane.specs.declared.position.Position.{Position}
 use Rattle.plane.specs.Measures.{Heights}
 use Rattle.plane.specs.Plane.{Within}
-use Rattle.plane.specs.Refusal.{Refusal, Row, first}
-use Rattle.mesh.specs.Refusals.{inside, same_position, master_at, place_rows}
+use Rattle.plane.specs.Refusal.{Refusal, first}
+use Rattle.mesh.specs.Refusals.{inside, same_position, place_rows}
 use Rattle.mesh.specs.Search.{first_at}
-use Rattle.mesh.specs.Tree.{Mesh, corner, corners}
+use Rattle.mesh.specs.Tree.{Mesh, corner}
 use Rattle.mesh_laws.specs.Laws.{Placeable}
 
 -- Where no row applies, the first does not, nor do the others.

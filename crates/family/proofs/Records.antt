@@ -1,5 +1,5 @@
 -- Placing the records of a sheet, record i: those before it are placed, and what is left gives the answer.
-use Rattle.std.proofs.Common.{◌≡◌, ℕ, suc, ◌+◌, ◌<◌, ◌≤◌, List, [], ◌∷◌, ◌++◌, length, get_or, take, drop, Some, None, Option, sym, refl, ap, ◌∙◌, subst, append_assoc, zero-add, add-one, arith}
+use Rattle.std.proofs.Common.{◌≡◌, ℕ, ◌+◌, ◌<◌, ◌≤◌, List, [], ◌∷◌, ◌++◌, length, get_or, take, drop, Some, None, Option, sym, refl, ap, ◌∙◌, subst, append_assoc, zero-add, add-one, arith}
 use Rattle.std.proofs.lemmas.List.{append-nil, length-map, take_more, take_all, at_drop_more, at_drop_all}
 use Rattle.std.proofs.lemmas.List.FromFn.{get_or-map-range_with_len, length-range_with_len}
 use Rattle.std.specs.List.{range_with_len}
@@ -60,7 +60,7 @@ module _ (h : Heights) (before : Tables) (qs : List Position) where
         let why = declined.why (ps ++ take i qs) (u.so_far ps g) in
         let step = here (ps ++ take i qs) l in
         sym (u.left ps g) ∙ (rw why at step)
-        ∙ ap (λ k. Some (bad_record k (record_byte k) (place_refusal bad.fault))) (sym declined.where-it-is)
+        ∙ ap (λ k. Some (bad_record k (record_byte k) (place_refusal bad.fault))) (sym declined.where_it_is)
 
     pub taking_all : length qs ≤ i → (ps : List Position) → Made h ps before →
         (records_refused h ps 0 qs ≡ None) × Made h (ps ++ qs) t

@@ -1,6 +1,6 @@
 -- Calls of a family, and what the rules answer to them. A family is known by its measure's heights and the positions of its placed
 -- masters, in their order; its tree is what placing these makes of a fresh one.
-use Rattle.std.specs.Prelude.{◌≡◌, ℕ, ◌+◌, Bool, true, false, List, [], ◌∷◌, ◌++◌, length, Some, None, Ok, Err, Option, Result}
+use Rattle.std.specs.Prelude.{◌≡◌, ℕ, ◌+◌, List, [], ◌∷◌, ◌++◌, length, Some, None, Option}
 use Rattle.plane.specs.declared.position.Position.{Position}
 use Rattle.plane.specs.Measures.{Heights}
 use Rattle.plane.specs.Plane.{Within}

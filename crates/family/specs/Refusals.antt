@@ -1,5 +1,5 @@
 -- The refusals of drafts and faces: the number and the named values of each case.
-use Rattle.std.specs.Prelude.{ℕ, ◌+◌, ◌*◌, List, [], ◌∷◌}
+use Rattle.std.specs.Prelude.{ℕ, ◌+◌, ◌*◌, [], ◌∷◌}
 use Rattle.plane.specs.Refusal.{Refusal}
 use Rattle.mesh.specs.Refusals.{place_refusal}
 use Rattle.family.specs.declared.fault.LoadFault.{LoadFault}

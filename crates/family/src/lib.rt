@@ -1,5 +1,6 @@
 //! A type family: drafts that take masters, faces that answer questions.
 #![tactic(auto)]
+
 mod call;
 mod draft;
 mod drafting;

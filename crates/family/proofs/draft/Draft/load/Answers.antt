@@ -1,4 +1,4 @@
-use Rattle.std.proofs.Common.{◌<◌, ◌≤◌, List, length, refl, ◌∙◌, subst, arith}
+use Rattle.std.proofs.Common.{◌<◌, ◌≤◌, List, length, refl, ◌∙◌, subst}
 use Rattle.plane.specs.declared.position.Position.{Position}
 use Rattle.mesh.specs.Tree.{fresh}
 use Rattle.family.proofs.Loads.{crowded_steps, loaded_steps, unloaded_steps}

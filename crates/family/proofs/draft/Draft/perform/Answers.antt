@@ -5,4 +5,4 @@ pub returns-in-Place : goal.returns-in-Place
 returns-in-Place g c =
     let placed = c.place.ensures in
     simp c.in-Place.is
-    (record { allowed = refl; stage = refl; measure = placed.measures; steps = simp c.placing-answer-answer.ensures placed.steps })
+    (record { allowed = refl; stage = refl; measure = placed.measures; steps = simp c.placing_answer-answer.ensures placed.steps })

@@ -1,5 +1,4 @@
-use Rattle.std.proofs.Common.{refl, ap}
-use Rattle.mesh.specs.declared.tables.Tables.{Tables}
+use Rattle.std.proofs.Common.{refl}
 use Rattle.family.proofs.Making.{placing_steps}
 use Rattle.family.proofs.draft.Draft.place.Goals as goal
 

@@ -14,33 +14,33 @@ loop-k-preserved g c =
     let bytes = c.args.sheet.now.bytes.now in
     let k = c.loop-k.k in
     let same = c.loop-k.invariant.0 in
-    let took = c.in-ok-take-record.ensures.placed in
+    let took = c.in_ok-take_record.ensures.placed in
     let low : k < length (records bytes) = omega (arith, records_length bytes, c.count-k-end.ensures.value) in
     let at = record_at bytes k (corner 0 0) (omega (arith, c.count-k-end.ensures.value)) in
     let more : Took (g.M.Measure.heights c.args.self.now.measure) c.loop-k.self.tables (get_or (records bytes) k (corner 0 0))
-    c.take-record.new.self.tables = rw (at, ← same) took
+    c.take_record.new.self.tables = rw (at, ← same) took
     in
-    (c.take-record.ensures.measures ∙ same, taking_more _ _ _ k _ c.loop-k.invariant.1 _ low more)
+    (c.take_record.ensures.measures ∙ same, taking_more _ _ _ k _ c.loop-k.invariant.1 _ low more)
 
-pub returns-in-err-take-record : goal.returns-in-err-take-record
-returns-in-err-take-record g c =
+pub returns-in_err-take_record : goal.returns-in_err-take_record
+returns-in_err-take_record g c =
     let bytes = c.args.sheet.now.bytes.now in
     let k = c.loop-k.k in
     let same = c.loop-k.invariant.0 in
     let low : k < length (records bytes) = omega (arith, records_length bytes, c.count-k-end.ensures.value) in
     let at = record_at bytes k (corner 0 0) (omega (arith, c.count-k-end.ensures.value)) in
-    let bad = c.in-err-take-record.field-0.0 in
-    let declined = c.in-err-take-record.ensures.placed in
+    let bad = c.in_err-take_record.field-0.0 in
+    let declined = c.in_err-take_record.ensures.placed in
     let why : Declined (g.M.Measure.heights c.args.self.now.measure) c.loop-k.self.tables (get_or (records bytes) k (corner 0 0)) k bad =
     rw (at, ← same) declined
     in
-    let p = err_from_is_err_and c.from-residual.result c.from-residual.ensures.1 in
-    let answer : refused record_refusal c.from-residual.result ≡ Some (record_refusal bad) =
+    let p = err_from_is_err_and c.from_residual.result c.from_residual.ensures.1 in
+    let answer : refused record_refusal c.from_residual.result ≡ Some (record_refusal bad) =
     ap (refused record_refusal) p.1 ∙ ap (λ (f : BadRecord). Some (record_refusal f)) p.2
     in
     record {
       placed = refused_one answer (taking_refused _ _ _ k _ c.loop-k.invariant.1 bad low why);
-      measures = c.take-record.ensures.measures ∙ same;
+      measures = c.take_record.ensures.measures ∙ same;
     }
 
 pub returns : goal.returns
