@@ -3,7 +3,8 @@ use Rattle.std.proofs.Common.{◌≡◌, ℕ, ◌+◌, ◌<◌, ◌≤◌, Bool,
 use lib.Seq.{take-set-lt}
 use Rattle.std.proofs.lemmas.List.{at_drop_more, at_drop_all, append-nil, get_or-take, take_more, take_more_set, drop-set-lt, length-take-le}
 use Rattle.mesh.specs.declared.node.Node.{Node}
-use Rattle.mesh.specs.Placing.{Edge, no_edge, no_node, with_son, with_neighbour, with_killer, changed, changed_if, new_node, hole, grown, marked, placed_nodes}
+use Rattle.mesh.specs.Edges.{no_edge}
+use Rattle.mesh.specs.Placing.{Edge, no_node, with_son, with_neighbour, with_killer, changed, changed_if, new_node, hole, grown, marked, placed_nodes}
 
 -- What one edge makes of n nodes.
 abbrev pub one_more : ℕ → ℕ → List Edge → Edge → ℕ → List Node → List Node

@@ -4,7 +4,8 @@ use Rattle.std.proofs.lemmas.List.{at_drop_more, at_drop_all, append-nil}
 use Rattle.mesh.specs.declared.hole.Hole.{Hole}
 use Rattle.mesh.specs.declared.node.Node.{Node}
 use Rattle.mesh.specs.Gathering.{Gathered}
-use Rattle.mesh.specs.Placing.{Edge, no_node, node_edges, hole}
+use Rattle.mesh.specs.Edges.{node_edges}
+use Rattle.mesh.specs.Placing.{Edge, no_node, hole}
 
 -- The edges of the first i nodes are gathered.
 pub record Underway (some : Hole) (doomed : List Bool) (ns : List Node) (i : ℕ) : Type 0 where

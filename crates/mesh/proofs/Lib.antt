@@ -5,3 +5,4 @@ mod Gathered
 mod Grows
 mod Holes
 mod Searches
+mod Shown

@@ -1,3 +1,4 @@
+pub mod Edges
 pub mod Gathering
 pub mod Lists
 pub mod Opened

@@ -4,11 +4,7 @@ use Rattle.plane.specs.declared.position.Position.{Position}
 use Rattle.plane.specs.Measures.{Heights}
 use Rattle.plane.specs.Plane.{InPlane}
 use Rattle.plane.specs.Rings.{K}
-pub use Rattle.mesh.specs.declared.edge.Edge.{Edge}
-pub use Rattle.mesh.specs.declared.edge.Tip.{Tip}
-pub use Rattle.mesh.specs.declared.edge.Tip.TheVariants.{From, To}
 use Rattle.mesh.specs.declared.node.Node.{Node}
-use Rattle.mesh.specs.Search.{first_at}
 use Rattle.mesh.specs.Tree.{Mesh, corner, born, fresh}
 
 -- The position of a master.
@@ -18,14 +14,6 @@ stand ms m = slice_index_or ms m (corner 0 0)
 -- What is read past the last node.
 abbrev pub no_node : Node
 no_node = record { masters = []; neighbours = []; father = None; stepfather = None; killer = None; sons = [] }
-
--- An edge of the hole, under a name that other crates can use.
-abbrev pub HoleEdge : Type 0
-HoleEdge = Edge
-
--- What is read past the last edge of a hole.
-abbrev pub no_edge : Edge
-no_edge = record { father = 0; side = 0; from = 0; to = 0; beyond = None }
 
 -- All masters stand in the plane.
 abbrev pub Housed : List Position → Type 0
@@ -58,39 +46,44 @@ holds h ms p n = int_lt (pos 0) (K h (stand ms (start n 0)) (stand ms (start n 1
 abbrev pub kills : Heights → List Position → Position → Node → Bool
 kills h ms p n = live n && holds h ms p n
 
+-- An edge of the hole: the killed node and its edge, the masters between which it runs, and the node across.
+pub record Edge : Type 0 where
+  pub father : ℕ
+  pub side : ℕ
+  pub from : ℕ
+  pub to : ℕ
+  pub beyond : Option ℕ
+
 -- Nothing is across, or a node that is not killed.
 abbrev pub stays : List Bool → Option ℕ → Bool
 stays doomed None = true
 stays doomed (Some j) = not (slice_index_or doomed j false)
 
--- The edge e of node i: the masters between which it runs, and the node across.
-abbrev pub edge_of : ℕ → Node → ℕ → Edge
-edge_of i n e = record { father = i; side = e; from = start n e; to = finish n e; beyond = across n e }
-
--- It belongs to the hole where nothing across is killed.
 abbrev pub side_edges : List Bool → ℕ → Node → ℕ → List Edge
-side_edges doomed i n e = cond (stays doomed (across n e)) (edge_of i n e ∷ []) []
-
-abbrev pub node_edges : List Bool → ℕ → Node → List Edge
-node_edges doomed i n = side_edges doomed i n 0 ++ (side_edges doomed i n 1 ++ side_edges doomed i n 2)
+side_edges doomed i n e =
+    cond (stays doomed (across n e))
+    (record { father = i; side = e; from = start n e; to = finish n e; beyond = across n e } ∷ [])
+    []
 
 -- The edges of the hole, by ascending number of the killed node, and its edges 0, 1, 2. `doomed` says of each node whether it is
 -- killed, and i is the number of the first node of the list.
 abbrev pub hole : List Bool → ℕ → List Node → List Edge
 hole doomed i [] = []
-hole doomed i (n ∷ ns) = cond (slice_index_or doomed i false) (node_edges doomed i n) [] ++ hole doomed (suc i) ns
+hole doomed i (n ∷ ns) =
+    cond (slice_index_or doomed i false) (side_edges doomed i n 0 ++ (side_edges doomed i n 1 ++ side_edges doomed i n 2)) []
+    ++ hole doomed (suc i) ns
 
--- The master at an end of an edge.
-abbrev pub end_of : Tip → Edge → ℕ
-end_of From e = e.from
-end_of To e = e.to
+-- The number of the first edge that passes a test, counted from k.
+abbrev pub first_edge : (Edge → Bool) → ℕ → List Edge → Option ℕ
+first_edge test k [] = None
+first_edge test k (e ∷ es) = cond (test e) (Some k) (first_edge test (suc k) es)
 
 -- The new node of an edge of the hole. Across its edges 1 and 2 stand the new nodes that share them: that of the edge which starts
 -- where this one ends, and that of the edge which ends where this one starts. `used` is the number of the first new node.
 abbrev pub new_node : ℕ → ℕ → List Edge → Edge → Node
 new_node used p es e =
     born (e.from ∷ e.to ∷ p ∷ [])
-    (e.beyond ∷ first_at (λ f. nat_eq (end_of From f) e.to) used es ∷ first_at (λ f. nat_eq (end_of To f) e.from) used es ∷ [])
+    (e.beyond ∷ first_edge (λ f. nat_eq f.from e.to) used es ∷ first_edge (λ f. nat_eq f.to e.from) used es ∷ [])
     (Some e.father) e.beyond
 
 -- A killed node gets its killer; `doomed` says of each node whether it is killed, and i is the number of the first.

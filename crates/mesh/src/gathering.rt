@@ -1,8 +1,8 @@
 //! Gathering the edges of the hole.
-ghost use Rattle.std.specs.Prelude.{◌≡◌, ◌+◌, ◌*◌, ◌<◌, ◌≤◌, List, [], ◌∷◌, ◌++◌, length};
-ghost use Rattle.mesh.specs.declared.edge.Edge.{Edge as AnEdge};
+ghost use Rattle.std.specs.Prelude.{◌≡◌, ◌+◌, ◌*◌, ◌<◌, ◌≤◌, List, [], ◌∷◌, ◌++◌, length, map};
+ghost use Rattle.mesh.specs.Edges.{HoleEdge, edge_of, node_edges, shown};
 ghost use Rattle.mesh.specs.Gathering.{Gathered};
-ghost use Rattle.mesh.specs.Placing.{next, edge_of, stays, side_edges, node_edges, hole};
+ghost use Rattle.mesh.specs.Placing.{next, stays, side_edges, hole};
 
 use crate::edge::Edge;
 use crate::hole::Hole;
@@ -25,7 +25,7 @@ impl Node {
     // The edge of a side, where the node has this number.
     fn edge(&self, number: u16, side: usize) -> Edge
         requires { side < 3 }
-        ensures { result ≡ edge_of number self.now side }
+        ensures { shown result ≡ edge_of number self.now side }
     {
         Edge {
             father: number,
@@ -71,7 +71,7 @@ impl Hole {
     // One edge more.
     fn add(&mut self, edge: Edge)
         requires { self.old.count < 65536 }
-        ensures gathered { (es : List AnEdge) → Gathered self.old es → Gathered self.new (es ++ edge ∷ []) }
+        ensures gathered { (es : List HoleEdge) → Gathered self.old es → Gathered self.new (es ++ shown edge ∷ []) }
         ensures more { self.new.count ≡ self.old.count + 1 }
     {
         if self.count < MOST_NODES {
@@ -83,7 +83,7 @@ impl Hole {
     // The edge of a killed node, where it belongs to the hole.
     fn add_side(&mut self, doomed: &[bool], node: &Node, number: u16, side: usize)
         requires { (self.old.count < 65536) × (side < 3) }
-        ensures gathered { (es : List AnEdge) → Gathered self.old es
+        ensures gathered { (es : List HoleEdge) → Gathered self.old es
             → Gathered self.new (es ++ side_edges doomed.now number node.now side) }
         ensures most { self.new.count ≤ self.old.count + 1 }
     {
@@ -95,7 +95,7 @@ impl Hole {
     // The edges of a killed node that belong to the hole.
     fn add_node(&mut self, doomed: &[bool], node: &Node, number: u16)
         requires { self.old.count < 65530 }
-        ensures gathered { (es : List AnEdge) → Gathered self.old es
+        ensures gathered { (es : List HoleEdge) → Gathered self.old es
             → Gathered self.new (es ++ node_edges doomed.now number node.now) }
         ensures most { self.new.count ≤ self.old.count + 3 }
     {
@@ -122,7 +122,7 @@ impl Hole {
     // Its edges, where there are not too many.
     pub(crate) fn edges(&self) -> &[Edge]
         requires { self.now.count ≤ 1024 }
-        ensures { (es : List AnEdge) → Gathered self.now es → result.now ≡ es }
+        ensures { (es : List HoleEdge) → Gathered self.now es → map shown result.now ≡ es }
     {
         &self.edges[..self.count]
     }

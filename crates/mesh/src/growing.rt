@@ -1,14 +1,14 @@
 //! The nodes that a new master makes, one over each edge of the hole.
-ghost use Rattle.std.specs.Prelude.{◌≡◌, ℕ, ◌+◌, ◌<◌, ◌≤◌, [], ◌∷◌, ◌++◌, length, take, nat_eq};
-ghost use Rattle.mesh.specs.Placing.{end_of, with_son, with_neighbour, changed, changed_if, new_node, grown, marked};
-ghost use Rattle.mesh.specs.Search.{first_at};
+ghost use Rattle.std.specs.Prelude.{◌≡◌, ℕ, ◌+◌, ◌<◌, ◌≤◌, [], ◌∷◌, ◌++◌, length, map, take, nat_eq};
+ghost use Rattle.mesh.specs.Edges.{end_of, shown};
+ghost use Rattle.mesh.specs.Placing.{first_edge, with_son, with_neighbour, changed, changed_if, new_node, grown, marked};
 
 use crate::edge::{Edge, Tip};
 use crate::node::Node;
 
 // The master at an end of an edge.
 fn master_at(edge: &Edge, tip: Tip) -> u8
-    ensures { result ≡ end_of tip edge.now }
+    ensures { result ≡ end_of tip (shown edge.now) }
 {
     match tip {
         Tip::From => edge.from,
@@ -19,7 +19,7 @@ fn master_at(edge: &Edge, tip: Tip) -> u8
 // The number of the new node over the first edge that has this end at a master; the first edge makes the node `first`.
 fn sharing(edges: &[Edge], first: usize, tip: Tip, master: u8) -> Option<u16>
     requires { first + length edges.now ≤ 1024 }
-    ensures { result ≡ first_at (λ f. nat_eq (end_of tip f) master) first edges.now }
+    ensures { result ≡ first_edge (λ f. nat_eq (end_of tip f) master) first (map shown edges.now) }
 {
     for (i, edge) in edges.iter().enumerate() {
         if master_at(edge, tip) == master {
@@ -32,7 +32,7 @@ fn sharing(edges: &[Edge], first: usize, tip: Tip, master: u8) -> Option<u16>
 // The new node over an edge. Across its edges 1 and 2 stand the new nodes that share them.
 fn over(edges: &[Edge], first: usize, p: u8, edge: &Edge) -> Node
     requires { first + length edges.now ≤ 1024 }
-    ensures { result ≡ new_node first p edges.now edge.now }
+    ensures { result ≡ new_node first p (map shown edges.now) (shown edge.now) }
 {
     let after = sharing(edges, first, Tip::From, edge.to);
     let before = sharing(edges, first, Tip::To, edge.from);
@@ -88,7 +88,7 @@ pub(crate) fn grow(nodes: &mut [Node], used: usize, edges: &[Edge], p: u8)
     requires room { used + length edges.now ≤ length nodes.old }
     requires few { used + length edges.now ≤ 1024 }
     ensures { take (used + length edges.now) nodes.new
-        ≡ grown used p edges.now edges.now (take used nodes.old) }
+        ≡ grown used p (map shown edges.now) (map shown edges.now) (take used nodes.old) }
 {
     for (i, edge) in edges.iter().enumerate() {
         let node = over(edges, used, p, edge);

@@ -9,6 +9,7 @@ mod gathering;
 mod growing;
 mod hole;
 mod in_use;
+mod killed_nodes;
 mod killing;
 mod node;
 mod placing;

@@ -11,7 +11,7 @@ use crate::fault::PlaceFault;
 use crate::growing::{grow, mark};
 use crate::hole::Hole;
 use crate::in_use::front;
-use crate::killing::doomed;
+use crate::killed_nodes::doomed;
 use crate::tables::{MOST_MASTERS, MOST_NODES, Tables};
 use plane::{Measure, Position};
 

@@ -3,7 +3,8 @@ use Rattle.std.proofs.Common.{◌≡◌, ℕ, zero, suc, ◌+◌, ◌<◌, ◌�
 use lib.Dec.{eqb-zero-suc, eqb-suc-zero, eqb-suc-suc}
 use Rattle.std.proofs.lemmas.List.{length_push, get_or_push, get_or_append_left}
 use Rattle.mesh.specs.declared.node.Node.{Node}
-use Rattle.mesh.specs.Placing.{HoleEdge, no_edge, no_node, new_node, with_killer, marked, with_son, with_neighbour}
+use Rattle.mesh.specs.Edges.{HoleEdge, no_edge}
+use Rattle.mesh.specs.Placing.{no_node, new_node, with_killer, marked, with_son, with_neighbour}
 use Rattle.mesh.specs.Placing.{changed, changed_if, grown}
 use Rattle.mesh_laws.proofs.Touches.{Below, names, touch, touches, untouched}
 

@@ -8,7 +8,8 @@ use Rattle.algebra.specs.Cuts.{rim}
 use Rattle.algebra.specs.Placing.{inner, bearers}
 use Rattle.mesh.specs.declared.node.Node.{Node}
 use Rattle.mesh.specs.Owner.{node}
-use Rattle.mesh.specs.Placing.{HoleEdge, no_edge, no_node, start, finish, across, kills, stays, side_edges, hole}
+use Rattle.mesh.specs.Edges.{HoleEdge, no_edge}
+use Rattle.mesh.specs.Placing.{no_node, start, finish, across, kills, stays, side_edges, hole}
 use Rattle.mesh.specs.Tree.{Mesh}
 use Rattle.mesh_laws.specs.Places.{table, killed, flat, entry_at, number}
 use Rattle.mesh_laws.specs.Steps.{made, foot}

@@ -12,8 +12,8 @@ use Rattle.algebra.proofs.Balance.{ends_once}
 use Rattle.algebra.proofs.Bearers.{base_at}
 use Rattle.algebra.proofs.Tables.{twin_back, killed_live, spared_live, cut, back_on_rim}
 use Rattle.mesh.specs.Owner.{node}
-use Rattle.mesh.specs.Placing.{no_edge, across, placed}
-use Rattle.mesh.specs.Search.{first_at}
+use Rattle.mesh.specs.Edges.{no_edge}
+use Rattle.mesh.specs.Placing.{across, placed, first_edge}
 use Rattle.mesh.specs.Tree.{Mesh}
 use Rattle.mesh_laws.specs.Places.{table, killed, flat, number, entry_at}
 use Rattle.mesh_laws.specs.Steps.{AllFormed, made, foot}
@@ -93,8 +93,8 @@ module _ (h : Heights) (m : Mesh) (p : Position) (formed : AllFormed m) (w : Twi
   new_entry : (k : ℕ) → k < made h m p → (x e : ℕ) → x / 3 ≡ length m.nodes + k → x % 3 ≡ e →
       entry_at (placed h m p) x ≡
       get_or (entry_at m (foot h m p k)
-      ∷ first_at (λ f. eqb f.from ((table m).to (foot h m p k))) (length m.nodes) (hole_of h m p)
-      ∷ first_at (λ f. eqb f.to ((table m).from (foot h m p k))) (length m.nodes) (hole_of h m p)
+      ∷ first_edge (λ f. eqb f.from ((table m).to (foot h m p k))) (length m.nodes) (hole_of h m p)
+      ∷ first_edge (λ f. eqb f.to ((table m).from (foot h m p k))) (length m.nodes) (hole_of h m p)
       ∷ []) e None
   new_entry k l x e q r = rw (q, r) (ap (λ n. across n e) (placed_new h m p formed k l))
 

@@ -5,7 +5,8 @@ use Rattle.plane.specs.declared.position.Position.{Position}
 use Rattle.plane.specs.Measures.{Heights}
 use Rattle.mesh.specs.declared.node.Node.{Node}
 use Rattle.mesh.specs.Owner.{node}
-use Rattle.mesh.specs.Placing.{no_edge, with_killer, with_son, with_neighbour, placed}
+use Rattle.mesh.specs.Edges.{no_edge}
+use Rattle.mesh.specs.Placing.{with_killer, with_son, with_neighbour, placed}
 use Rattle.mesh.specs.Tree.{Mesh}
 use Rattle.mesh_laws.specs.Places.{killed}
 use Rattle.mesh_laws.specs.Steps.{AllFormed, made, foot}

@@ -10,8 +10,8 @@ use Rattle.algebra.specs.Placing.{Kills, OnRim, inner}
 use Rattle.algebra.proofs.Bearers.{base_is, base_once}
 use Rattle.mesh.specs.declared.node.Node.{Node}
 use Rattle.mesh.specs.Owner.{node}
-use Rattle.mesh.specs.Placing.{HoleEdge, no_edge, no_node, kills, new_node, with_killer, marked, placed}
-use Rattle.mesh.specs.Search.{first_at}
+use Rattle.mesh.specs.Edges.{HoleEdge, no_edge}
+use Rattle.mesh.specs.Placing.{no_node, kills, new_node, with_killer, marked, placed, first_edge}
 use Rattle.mesh.specs.Tree.{Mesh}
 use Rattle.mesh_laws.specs.Places.{table, killed, flat}
 use Rattle.mesh_laws.specs.Steps.{AllFormed, made, foot}
@@ -48,7 +48,7 @@ module _ (h : Heights) (m : Mesh) (p : Position) where
   pub first_foot : (end : HoleEdge → ℕ) →
       Once (3 * (table m).size) (rim (killed h m p) (inner (table m) (killed h m p))) (λ x. end (edge_at m x)) →
       (b j : ℕ) → j < made h m p → end (edge_at m (foot h m p j)) ≡ b →
-      first_at (λ f. eqb (end f) b) (length m.nodes) (hole_of h m p) ≡ Some (length m.nodes + j)
+      first_edge (λ f. eqb (end f) b) (length m.nodes) (hole_of h m p) ≡ Some (length m.nodes + j)
   first_foot end once b j l e =
       let n = hole_length h m p in
       let here = eq-eqb (end (edge_at m (foot h m p j))) b e in

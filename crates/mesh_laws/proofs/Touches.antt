@@ -3,7 +3,8 @@ use Rattle.std.proofs.Common.{◌≡◌, ℕ, zero, suc, ◌+◌, ◌<◌, ◌�
 use Rattle.std.proofs.lemmas.List.{length-set, get_or-set_same, get_or-set_other}
 use Rattle.std.proofs.lemmas.Bool.{cases_Bool, both_ways, false≢true, and_parts, and_from, eqb-true, eqb-false, eq-eqb, ne_eqb}
 use Rattle.mesh.specs.declared.node.Node.{Node}
-use Rattle.mesh.specs.Placing.{HoleEdge, no_edge, next, start, finish, across, with_son, entry, with_neighbour}
+use Rattle.mesh.specs.Edges.{HoleEdge, no_edge}
+use Rattle.mesh.specs.Placing.{next, start, finish, across, with_son, entry, with_neighbour}
 
 -- Whether an entry names node i.
 abbrev pub names : ℕ → Option ℕ → Bool

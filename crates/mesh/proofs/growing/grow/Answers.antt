@@ -1,16 +1,24 @@
-use Rattle.std.proofs.Common.{◌≡◌, ℕ, ◌+◌, List, [], ◌∷◌, ◌++◌, length, get_or, take, sym, ap, ◌∙◌, arith}
-use Rattle.std.proofs.lemmas.List.{at_drop_all, length-take-le}
+use Rattle.std.proofs.Common.{◌≡◌, ℕ, ◌+◌, ◌<◌, List, [], ◌∷◌, ◌++◌, length, map, get_or, take, None, sym, ap, ◌∙◌, arith}
+use Rattle.std.proofs.lemmas.List.{at_drop_all, length-take-le, length-map, get_or-map}
+use Rattle.mesh.specs.declared.edge.Edge as code
 use Rattle.mesh.specs.declared.node.Node.{Node}
-use Rattle.mesh.specs.Placing.{Edge, no_edge, changed, changed_if, with_neighbour, with_son, grown}
-use Rattle.mesh.proofs.Grows.{grown_step}
+use Rattle.mesh.specs.Edges.{no_edge, shown}
+use Rattle.mesh.specs.Placing.{Edge, changed, changed_if, with_neighbour, with_son, grown}
+use Rattle.mesh.proofs.Grows.{one_more, grown_step}
 use Rattle.mesh.proofs.growing.grow.Goals as goal
+
+-- what is read past the last edge
+abbrev none : code.Edge
+none = record { father = 0; side = 0; from = 0; to = 0; beyond = None }
 
 pub loop-i-preserved : goal.loop-i-preserved
 loop-i-preserved c =
     let used = c.args.used in
     let i = c.loop-i.i in
-    let all = c.args.edges.now in
-    let e = get_or all i no_edge in
+    let edges = c.args.edges.now in
+    let all = map shown edges in
+    let within : i < length edges = omega arith in
+    let e = shown (get_or edges i none) in
     let ns = take (used + i) c.loop-i.nodes in
     let further : used + (i + 1) ≡ used + i + 1 = omega arith in
     let size = length-take-le (used + i) c.loop-i.nodes (omega (arith, c.requires.room)) in
@@ -18,13 +26,19 @@ loop-i-preserved c =
     changed_if (with_neighbour e.from e.to (used + i)) e.beyond (changed (with_son e.side (used + i)) e.father ns) ++ n ∷ []
     in
     let written = ap (λ (k : ℕ). take k c.add_node.new.nodes) further ∙ c.add_node.ensures ∙ ap born c.over-node.ensures in
-    grown_step used c.args.p all i ns _ (used + i) (omega arith) size written ∙ c.loop-i.invariant
+    let here = sym (get_or-map shown edges i none no_edge within) in
+    grown_step used c.args.p all i ns _ (used + i) (omega (arith, length-map edges shown)) size
+    (written ∙ ap (λ (x : Edge). one_more used c.args.p all x (used + i) ns) here)
+    ∙ c.loop-i.invariant
 
 pub returns : goal.returns
 returns c =
-    let all = c.args.edges.now in
+    let edges = c.args.edges.now in
+    let all = map shown edges in
     let i = c.loop-i.i in
     let used = c.args.used in
-    let end : i ≡ length all = omega arith in
+    let end : i ≡ length edges = omega arith in
     let done = λ (es : List Edge). grown used c.args.p all es (take (used + i) c.loop-i.nodes) in
-    ap (λ (k : ℕ). take (used + k) c.loop-i.nodes) (sym end) ∙ sym (at_drop_all done all i (omega arith)) ∙ c.loop-i.invariant
+    ap (λ (k : ℕ). take (used + k) c.loop-i.nodes) (sym end)
+    ∙ sym (at_drop_all done all i (omega (arith, length-map edges shown)))
+    ∙ c.loop-i.invariant

@@ -1,6 +1,6 @@
 use Rattle.std.proofs.Common.{◌+◌, List, [], ◌∷◌, ◌++◌, sym, ap, subst, arith}
-use Rattle.mesh.specs.declared.edge.Edge.{Edge}
 use Rattle.mesh.specs.declared.hole.Hole.{Hole}
+use Rattle.mesh.specs.Edges.{HoleEdge, shown}
 use Rattle.mesh.specs.Gathering.{Gathered}
 use Rattle.mesh.proofs.Gathered.{gathered_more, gathered_past}
 use Rattle.mesh.proofs.hole.Hole.add.Goals as goal
@@ -8,7 +8,7 @@ use Rattle.mesh.proofs.hole.Hole.add.Goals.{then-self-lt-MOST_NODES, else-self-l
 
 pub returns : goal.returns
 returns c =
-    let after : List Edge → Hole → Type 0 = λ es s. Gathered (record { edges = s.edges; count = s.count + 1 }) (es ++ c.args.edge ∷ []) in
+    let after : List HoleEdge → Hole → Type 0 = λ es s. Gathered (record { edges = s.edges; count = s.count + 1 }) (es ++ shown c.args.edge ∷ []) in
     let more = λ (s : Hole). s.count + 1 in
     elim c.if-self-lt-MOST_NODES.branch [
       | then-self-lt-MOST_NODES w ↦ record {
