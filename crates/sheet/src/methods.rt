@@ -1,5 +1,5 @@
 //! What a sheet answers.
-ghost use Rattle.std.specs.Prelude.{◌≡◌, ◌^◌, ◌<◌, is_ok, IfOk, Decides, MatchResult};
+ghost use Rattle.std.specs.Prelude.{◌≡◌, is_ok, IfOk, Decides, MatchResult};
 ghost use Rattle.plane.specs.Refusal.{refused, first};
 ghost use Rattle.sheet.specs.Layout.{KeepsLayout, count, fresh_sheet, master_record};
 ghost use Rattle.sheet.specs.Refusals.{sheet_refusal, sheet_refused, record_refusal, record_rows};
@@ -41,8 +41,7 @@ impl<'a> Sheet<'a> {
 
     // How many records a section has.
     pub fn count(&self, section: Section) -> usize
-        ensures value { result ≡ count self.now.bytes.now section }
-        ensures bound { result < 2 ^ 16 }
+        ensures { result ≡ count self.now.bytes.now section }
     {
         count_of(self.bytes, section)
     }

@@ -15,8 +15,8 @@ loop-k-preserved g c =
     let k = c.loop-k.k in
     let same = c.loop-k.invariant.0 in
     let took = c.in_ok-take_record.ensures.placed in
-    let low : k < length (records bytes) = omega (arith, records_length bytes, c.count-k-end.ensures.value) in
-    let at = record_at bytes k (corner 0 0) (omega (arith, c.count-k-end.ensures.value)) in
+    let low : k < length (records bytes) = omega (arith, records_length bytes, c.count-k-end.ensures) in
+    let at = record_at bytes k (corner 0 0) (omega (arith, c.count-k-end.ensures)) in
     let more : Took (g.M.Measure.heights c.args.self.now.measure) c.loop-k.self.tables (get_or (records bytes) k (corner 0 0))
     c.take_record.new.self.tables = rw (at, ← same) took
     in
@@ -27,8 +27,8 @@ returns-in_err-take_record g c =
     let bytes = c.args.sheet.now.bytes.now in
     let k = c.loop-k.k in
     let same = c.loop-k.invariant.0 in
-    let low : k < length (records bytes) = omega (arith, records_length bytes, c.count-k-end.ensures.value) in
-    let at = record_at bytes k (corner 0 0) (omega (arith, c.count-k-end.ensures.value)) in
+    let low : k < length (records bytes) = omega (arith, records_length bytes, c.count-k-end.ensures) in
+    let at = record_at bytes k (corner 0 0) (omega (arith, c.count-k-end.ensures)) in
     let bad = c.in_err-take_record.field-0.0 in
     let declined = c.in_err-take_record.ensures.placed in
     let why : Declined (g.M.Measure.heights c.args.self.now.measure) c.loop-k.self.tables (get_or (records bytes) k (corner 0 0)) k bad =
@@ -46,7 +46,7 @@ returns-in_err-take_record g c =
 pub returns : goal.returns
 returns g c =
     let bytes = c.args.sheet.now.bytes.now in
-    let end = taking_all _ _ _ c.loop-k.k _ c.loop-k.invariant.1 (omega (arith, records_length bytes, c.count-k-end.ensures.value)) in
+    let end = taking_all _ _ _ c.loop-k.k _ c.loop-k.invariant.1 (omega (arith, records_length bytes, c.count-k-end.ensures)) in
     record {
       placed = record { answered = λ ps made. (end ps made).0; all = λ _ ps made. (end ps made).1 };
       measures = c.loop-k.invariant.0;
