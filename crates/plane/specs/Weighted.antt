@@ -5,7 +5,7 @@ use Rattle.plane.specs.declared.measure.MeasureFault.TheVariants.{Weights}
 use Rattle.plane.specs.Measures.{Heights, only_in_plane}
 use Rattle.plane.specs.Refusal.{Refusal, Row}
 
--- The rule of its numbers: A and B from 1 to 64, C from −63 to 63, and C-as-C less than A-as-B.
+-- The rule of its numbers: A and B from 1 to 64, C from −63 to 63, and C·C less than A·B.
 abbrev pub from_to : ℤ → ℤ → ℤ → Bool
 from_to low high z = int_le low z && int_le z high
 

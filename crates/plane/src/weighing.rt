@@ -16,7 +16,7 @@ fn within(low: i64, high: i64, z: i64) -> bool
     low <= z && z <= high
 }
 
-// Whether C.C is less than A.B, for small numbers.
+// Whether C·C is less than A·B, for small numbers.
 fn dominates(a: i64, b: i64, c: i64) -> bool
     requires a { Size a 64 }
     requires b { Size b 64 }
