@@ -39,7 +39,7 @@ rule a b c e =
 abbrev form_of : Expr → Expr → Expr
 form_of u v = var 0 ⊗ (u ⊗ u) ⊕ var 1 ⊗ (v ⊗ v) ⊕ lit (pos 2) ⊗ (var 2 ⊗ (u ⊗ v))
 
--- A-as-B − C-as-C, and the two linear forms whose squares remain
+-- A·B − C·C, and the two linear forms whose squares remain
 abbrev surplus : Expr
 surplus = var 0 ⊗ var 1 ⊖ var 2 ⊗ var 2
 
