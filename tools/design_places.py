@@ -16,7 +16,7 @@ import sys
 POINTS = [
     ("1 enums", r"^\s*(pub(\(crate\))? )?enum \w+"),
     ("1 codes and flags", r"fn .*-> i8|fn .*\w+: bool[,)]|match F::heads\(\)|^    fn (number|section)\(self\)|^    pub fn (number|section)\(self\)"),
-    ("3 loops with an index", r"^\s*for (\w+ in [^&]*\.\.|\(\w+, \w+\) in .*enumerate\(\))|^\s*(while|loop) "),
+    ("3 loops with an index", r"^\s*for (\w+ in [^&]*\.\.|.*enumerate\(\))|^\s*(while|loop) "),
     ("3 runs over constant places", r"\w\[0\].*\w\[1\]|positions\[[123]\] =|node\.masters\[[012]\]|, [012]\)[;,]$|, 0\) \+ "),
     ("3 tests of a place against a length", r"\b\w+ <=? \w+(\.\w+)?\.len\(\)|\w+ >= \w+(\.\w+)?\.len\(\)"),
     ("4 equality, order, copies, printing by hand", r"a\.u == b\.u|impl \w*(PartialEq|PartialOrd|Eq|Ord|Clone|Copy|Debug) for"),

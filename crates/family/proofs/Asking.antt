@@ -1,5 +1,6 @@
 -- Questions: the node that answers is the owner, and there is one.
-use Rattle.std.proofs.Common.{◌≡◌, ℕ, zero, suc, ◌<◌, List, [], ◌∷◌, map, length, get_or, ℤ, pos, sym, refl, ap, ◌∙◌, subst, arith}
+use Rattle.std.proofs.Common.{◌≡◌, ℕ, zero, suc, ◌<◌, List, [], ◌∷◌, map, length, get_or, ℤ, pos, IfOk, MatchOption, Some, None, Option, sym, refl, ap, ◌∙◌, subst, arith}
+use Rattle.std.specs.Option.{ok_or}
 use Rattle.std.proofs.lemmas.List.{append-nil}
 use Rattle.plane.specs.declared.position.Position.{Position}
 use Rattle.plane.specs.Measures.{Heights, Supported}
@@ -17,9 +18,9 @@ use Rattle.family.specs.Calls as call
 use Rattle.family.specs.Calls.{Made, Stepped, Asked, Replies}
 use Rattle.family.specs.Finding.{AnsweredBy, Unanswered, ShowsOnly}
 use Rattle.family.specs.Mixes.{mixture, mix_at}
+use Rattle.family.specs.Outcomes.{question_outcome}
 use Rattle.family.specs.Refusals.{question_refusal}
 use Rattle.family.specs.declared.fault.QuestionFault.TheVariants.{NotInside}
-use Rattle.family.proofs.Making.{made_housed}
 
 -- The node that answers owns q.
 owns_at : {m : Mesh} {q : Position} {x : Mix} (a : AnsweredBy m q x) → OwnsAt m q a.number
@@ -55,7 +56,7 @@ module _ {h : Heights} (law : Supported h) {ps : List Position} {t : Tables} (g 
   answered {q} w none =
       let j = lawful.owned q w in
       let o = j.1.owner in
-      let housed = made_housed g in
+      let housed = t.housed in
       none j.0 o.is_live.used (record {
         lives = o.is_live.lives;
         mixable = record {
@@ -86,25 +87,28 @@ module _ (h : Heights) (law : Supported h) (t : Tables) (q : Position) where
   pub outside_steps : (Within q → ⊥) → Stepped h t (call.ask q) (call.refused (question_refusal NotInside)) t
   outside_steps n = asked_steps (λ ps g. call.outside n)
 
-  pub none_steps : Within q → Unanswered (in_use t) q → Stepped h t (call.ask q) (call.refused (question_refusal NotInside)) t
-  none_steps w none = asked_steps (λ ps g. absurd (answered law g w none))
+  module _ (w : Within q) where
+    -- What is found answers the question; something is found.
+    pub found_steps : (found : Option Mix) → MatchOption found (Unanswered (in_use t) q) (λ x. AnsweredBy (in_use t) q x) →
+        Stepped h t (call.ask q) (question_outcome (ok_or found NotInside)) t
+    found_steps None none = asked_steps (λ ps g. absurd (answered law g w none))
+    found_steps (Some x) a =
+        asked_steps (λ ps g.
+        let m = g.tree_is in
+        let owner : Owner (tree h ps) q a.number = subst (λ n. Owner n q a.number) m (is_owner law g w a.number (owns_at a)) in
+        let mix = same_mixture a ∙ ap (λ n. mix_at n a.number q) m in
+        rw mix (call.owned w a.number owner))
 
-  pub found_steps : (x : Mix) → Within q → AnsweredBy (in_use t) q x → Stepped h t (call.ask q) (call.mixed (mixture x)) t
-  found_steps x w a =
-      asked_steps (λ ps g.
-      let m = g.tree_is in
-      let owner : Owner (tree h ps) q a.number = subst (λ n. Owner n q a.number) m (is_owner law g w a.number (owns_at a)) in
-      let mix = same_mixture a ∙ ap (λ n. mix_at n a.number q) m in
-      rw mix (call.owned w a.number owner))
-
-  -- At its own position a master has the whole weight.
-  pub found_own : (x : Mix) → Within q → AnsweredBy (in_use t) q x → (ps : List Position) → Made h ps t → (k : ℕ) →
-      k < length (in_use t).masters → stand (in_use t).masters k ≡ q → ShowsOnly x k
-  found_own x w a ps g k l e =
-      let own = (lawful law g).own_place k l (rw e w) a.number (rw e (is_owner law g w a.number (owns_at a))) in
-      record {
-        side = own.side;
-        side_in = own.side_in;
-        is_master = ap (λ ms. get_or ms own.side 0) a.mixes.same_masters ∙ own.is_vertex;
-        whole = whole_weight x.weights own.side a.mixes.weighed a.mixes.summed (ap (λ p. get_or (weights_at (in_use t) a.number p) own.side (pos 0)) (sym e) ∙ own.whole);
-      }
+    -- At its own position a master has the whole weight.
+    pub found_own : (found : Option Mix) → MatchOption found (Unanswered (in_use t) q) (λ x. AnsweredBy (in_use t) q x) →
+        (ps : List Position) → Made h ps t → (k : ℕ) → k < length (in_use t).masters → stand (in_use t).masters k ≡ q →
+        IfOk (ok_or found NotInside) (λ x. ShowsOnly x k)
+    found_own None none ps g k l e = tt
+    found_own (Some x) a ps g k l e =
+        let own = (lawful law g).own_place k l (rw e w) a.number (rw e (is_owner law g w a.number (owns_at a))) in
+        record {
+          side = own.side;
+          side_in = own.side_in;
+          is_master = ap (λ ms. get_or ms own.side 0) a.mixes.same_masters ∙ own.is_vertex;
+          whole = whole_weight x.weights own.side a.mixes.weighed a.mixes.summed (ap (λ p. get_or (weights_at (in_use t) a.number p) own.side (pos 0)) (sym e) ∙ own.whole);
+        }

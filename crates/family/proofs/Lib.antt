@@ -1,4 +1,5 @@
 pub mod Asking
+pub mod Findings
 pub mod Histories
 pub mod Loads
 pub mod Making

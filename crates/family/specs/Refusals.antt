@@ -1,7 +1,10 @@
--- The refusals of drafts and faces: the number and the named values of each case.
+-- The refusals of drafts and faces, and of calls: the number and the named values of each case.
 use Rattle.std.specs.Prelude.{ℕ, ◌+◌, ◌*◌, [], ◌∷◌}
 use Rattle.plane.specs.Refusal.{Refusal}
+use Rattle.sheet.specs.Refusals.{sheet_refusal}
 use Rattle.mesh.specs.Refusals.{place_refusal}
+use Rattle.family.specs.declared.fault.CallFault.{CallFault}
+use Rattle.family.specs.declared.fault.CallFault.TheVariants.{Place, Sheet, Load, Question}
 use Rattle.family.specs.declared.fault.LoadFault.{LoadFault}
 use Rattle.family.specs.declared.fault.LoadFault.TheVariants.{HasMasters, Record}
 use Rattle.family.specs.declared.fault.QuestionFault.{QuestionFault}
@@ -22,3 +25,10 @@ load_refusal (Record r) = bad_record r.number r.byte (place_refusal r.fault)
 
 abbrev pub question_refusal : QuestionFault → Refusal
 question_refusal NotInside = record { number = 2; names = [] }
+
+-- A call is refused with the refusal of what it asked for.
+abbrev pub call_refusal : CallFault → Refusal
+call_refusal (Place e) = place_refusal e
+call_refusal (Sheet e) = sheet_refusal e
+call_refusal (Load e) = load_refusal e
+call_refusal (Question e) = question_refusal e

@@ -1,9 +1,7 @@
 //! Calls of a family as values, and their answers.
-use crate::fault::{LoadFault, QuestionFault};
+use crate::fault::CallFault;
 use figures::Mix;
-use mesh::PlaceFault;
 use plane::Position;
-use sheet::SheetFault;
 
 // A call of a family.
 #[derive(Clone, Copy)]
@@ -16,17 +14,15 @@ pub enum Call<'a> {
     Ask(Position),
 }
 
-// What a call answers.
+// What a call gives.
 #[derive(Clone, Copy)]
-pub enum Answer {
+pub enum Reply {
     // a release, a reopening, or an accepted load
     Done,
     // the number of the new master
     Placed(u8),
     Mixed(Mix),
-    NotPlaced(PlaceFault),
-    // the bytes to load are no sheet
-    NotSheet(SheetFault),
-    NotLoaded(LoadFault),
-    NotAnswered(QuestionFault),
 }
+
+// What a call answers.
+pub type Answer = Result<Reply, CallFault>;

@@ -1,21 +1,16 @@
 //! What a face does.
-ghost use Rattle.std.specs.Prelude.{◌≡◌, ℕ, ◌<◌, List, length, IfOk, slice_index_or};
-ghost use Rattle.plane.specs.Refusal.{refused, first};
+ghost use Rattle.std.specs.Prelude.{◌≡◌, ℕ, ◌<◌, List, length, IfOk};
 ghost use Rattle.plane.specs.declared.position.Position.{Position as APosition};
 ghost use Rattle.mesh.specs.Lists.{in_use};
 ghost use Rattle.mesh.specs.Placing.{stand, tree};
-ghost use Rattle.mesh.specs.Refusals.{node_refusal, node_rows};
-ghost use Rattle.mesh.specs.declared.node.Node.{Node as ANode};
 ghost use Rattle.family.specs.Calls.{Made, Stepped, ask, reopen, done};
 ghost use Rattle.family.specs.Finding.{ShowsOnly};
 ghost use Rattle.family.specs.Outcomes.{question_outcome};
 
-use crate::draft::Draft;
-use crate::face::Face;
 use crate::fault::QuestionFault;
 use crate::finding::find_mix;
+use crate::staged::{Draft, Face};
 use figures::Mix;
-use mesh::{Node, NodeFault};
 use plane::{Measure, Position};
 
 impl<M: Measure> Face<M> {
@@ -30,19 +25,8 @@ impl<M: Measure> Face<M> {
         if !q.is_inside() {
             return Err(QuestionFault::NotInside);
         }
-        match find_mix(&self.tables, q) {
-            Some(mix) => Ok(mix),
-            // no family gets here: each of its inside positions has an owner
-            None => Err(QuestionFault::NotInside),
-        }
-    }
-
-    // The node of a number.
-    pub fn node(&self, number: usize) -> Result<Node, NodeFault>
-        ensures takes { IfOk result (λ n. (d : ANode) → n ≡ slice_index_or (in_use self.now.tables).nodes number d) }
-        ensures refuses { refused node_refusal result ≡ first (node_rows (in_use self.now.tables).nodes number) }
-    {
-        self.tables.node(number)
+        // no family is refused here: each of its inside positions has an owner
+        find_mix(&self.tables, q).ok_or(QuestionFault::NotInside)
     }
 
     // Uses the face up and gives the draft back. All tables are kept.
@@ -50,7 +34,6 @@ impl<M: Measure> Face<M> {
         ensures steps { Stepped (M.heights self.measure) self.tables reopen done result.tables }
         ensures keeps { (result.measure ≡ self.measure) × (result.tables ≡ self.tables) }
     {
-        let Face { measure, tables } = self;
-        Draft { measure, tables }
+        self.turned()
     }
 }

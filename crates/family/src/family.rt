@@ -1,6 +1,5 @@
 //! A family at some moment.
-use crate::draft::Draft;
-use crate::face::Face;
+use crate::staged::{Draft, Face};
 
 // A draft or a face.
 #[derive(Drop)]

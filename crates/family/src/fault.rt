@@ -1,9 +1,12 @@
-//! Why a sheet is not loaded, and why a question is not answered.
+//! Why a sheet is not loaded, why a question is not answered, and why a call is refused.
 ghost use Rattle.std.specs.Prelude.{◌≡◌};
 ghost use Rattle.family.specs.Carried.{carried};
-ghost use Rattle.family.specs.Refusals.{load_refusal, question_refusal};
+ghost use Rattle.family.specs.Refusals.{load_refusal, question_refusal, call_refusal};
+ghost use Rattle.family.specs.declared.fault.CallFault.TheVariants as call;
 
 use mesh::PlaceFault;
+use plane::Fault;
+use sheet::SheetFault;
 
 // A master record that placing refused.
 #[derive(Clone, Copy, PartialEq, Eq, Debug)]
@@ -43,11 +46,10 @@ impl From<BadRecord> for LoadFault {
     }
 }
 
-impl LoadFault {
-    // The refusal's number.
-    pub fn number(self) -> u8
-        ensures { result ≡ (load_refusal self).number }
-    {
+impl Fault for LoadFault {
+    ghost refusal = { load_refusal };
+
+    fn number(self) -> u8 {
         match self {
             LoadFault::HasMasters => 12,
             LoadFault::Record(_) => 13,
@@ -62,13 +64,51 @@ pub enum QuestionFault {
     NotInside,
 }
 
-impl QuestionFault {
-    // The refusal's number.
-    pub fn number(self) -> u8
-        ensures { result ≡ (question_refusal self).number }
-    {
+impl Fault for QuestionFault {
+    ghost refusal = { question_refusal };
+
+    fn number(self) -> u8 {
         match self {
             QuestionFault::NotInside => 2,
+        }
+    }
+}
+
+// Why a call is refused: by the fault of what it asked for.
+#[derive(Clone, Copy, PartialEq, Eq, Debug)]
+pub enum CallFault {
+    Place(PlaceFault),
+    // the bytes to load are no sheet
+    Sheet(SheetFault),
+    Load(LoadFault),
+    Question(QuestionFault),
+}
+
+impl From<SheetFault> for CallFault {
+    ghost from_gives = { λ fault r. r ≡ call.Sheet fault };
+
+    fn from(fault: SheetFault) -> CallFault {
+        CallFault::Sheet(fault)
+    }
+}
+
+impl From<LoadFault> for CallFault {
+    ghost from_gives = { λ fault r. r ≡ call.Load fault };
+
+    fn from(fault: LoadFault) -> CallFault {
+        CallFault::Load(fault)
+    }
+}
+
+impl Fault for CallFault {
+    ghost refusal = { call_refusal };
+
+    fn number(self) -> u8 {
+        match self {
+            CallFault::Place(fault) => fault.number(),
+            CallFault::Sheet(fault) => fault.number(),
+            CallFault::Load(fault) => fault.number(),
+            CallFault::Question(fault) => fault.number(),
         }
     }
 }

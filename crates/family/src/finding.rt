@@ -16,19 +16,16 @@ fn mix_of(tables: &Tables, node: &Node, q: Position) -> Option<Mix>
     if node.killer.is_some() {
         return None;
     }
-    let [a, b, c] = tables.vertices(node);
-    Mix::of_owner(q, a, b, c, node.masters, tables.masters().len() as u8)
+    let count = tables.masters().len() as u8;
+    Mix::of_owner(q, tables.vertices(node), node.masters, count)
 }
 
 // The mix of the first node that answers q.
 pub(crate) fn find_mix(tables: &Tables, q: Position) -> Option<Mix>
     ensures { MatchOption result (Unanswered (in_use tables.now) q) (λ x. AnsweredBy (in_use tables.now) q x) }
 {
-    let nodes = tables.nodes();
-    for node in nodes {
-        if let Some(mix) = mix_of(tables, node, q) {
-            return Some(mix);
-        }
-    }
-    None
+    tables
+        .nodes()
+        .iter()
+        .find_map(|node| mix_of(tables, node, q))
 }

@@ -2,9 +2,7 @@
 #![tactic(auto)]
 
 mod call;
-mod draft;
 mod drafting;
-mod face;
 mod facing;
 mod family;
 mod fault;
@@ -12,9 +10,9 @@ mod finding;
 mod loading;
 mod performing;
 mod running;
+mod staged;
 
-pub use call::{Answer, Call};
-pub use draft::Draft;
-pub use face::Face;
+pub use call::{Answer, Call, Reply};
 pub use family::Family;
-pub use fault::{LoadFault, QuestionFault, RefusedRecord};
+pub use fault::{CallFault, LoadFault, QuestionFault, RefusedRecord};
+pub use staged::{Draft, Face, ForMasters, ForQuestions, Staged};

@@ -2,37 +2,16 @@
 ghost use Rattle.std.specs.Prelude.{◌≡◌};
 ghost use Rattle.family.specs.declared.family.Family.TheVariants.{Open, Shut};
 ghost use Rattle.family.specs.Calls.{Stepped, load};
-ghost use Rattle.family.specs.Outcomes.{place_outcome, load_outcome, question_outcome, answer_outcome};
+ghost use Rattle.family.specs.Outcomes.{answer_outcome};
 ghost use Rattle.family.specs.Performing.{Answered, Extends};
 ghost use Rattle.family.specs.Standing.{deed_of};
 
-use crate::call::{Answer, Call};
-use crate::draft::Draft;
-use crate::face::Face;
+use crate::call::{Answer, Call, Reply};
 use crate::family::Family;
-use crate::fault::QuestionFault;
-use figures::Mix;
-use mesh::PlaceFault;
+use crate::fault::CallFault;
+use crate::staged::{Draft, Face};
 use plane::Measure;
 use sheet::Sheet;
-
-fn placing_answer(r: Result<u8, PlaceFault>) -> Answer
-    ensures { answer_outcome result ≡ place_outcome r }
-{
-    match r {
-        Ok(number) => Answer::Placed(number),
-        Err(fault) => Answer::NotPlaced(fault),
-    }
-}
-
-fn question_answer(r: Result<Mix, QuestionFault>) -> Answer
-    ensures { answer_outcome result ≡ question_outcome r }
-{
-    match r {
-        Ok(mix) => Answer::Mixed(mix),
-        Err(fault) => Answer::NotAnswered(fault),
-    }
-}
 
 impl<M: Measure> Draft<M> {
     // Checks the bytes of a sheet and loads them.
@@ -42,13 +21,9 @@ impl<M: Measure> Draft<M> {
         ensures measures { self.new.measure ≡ self.old.measure }
     {
         let mut sheet = Sheet::fresh();
-        if let Err(fault) = sheet.check(bytes) {
-            return Answer::NotSheet(fault);
-        }
-        match self.load(&sheet) {
-            Ok(()) => Answer::Done,
-            Err(fault) => Answer::NotLoaded(fault),
-        }
+        sheet.check(bytes)?;
+        self.load(&sheet)?;
+        Ok(Reply::Done)
     }
 
     // A call on a draft.
@@ -56,9 +31,9 @@ impl<M: Measure> Draft<M> {
         ensures { Answered M.heights (Open self) (deed_of call.entry) result.1 result.0 }
     {
         match call {
-            Call::Release => (Family::Shut(self.release()), Some(Answer::Done)),
+            Call::Release => (Family::Shut(self.release()), Some(Ok(Reply::Done))),
             Call::Place(p) => {
-                let answer = placing_answer(self.place(p));
+                let answer = self.place(p).map(Reply::Placed).map_err(CallFault::Place);
                 (Family::Open(self), Some(answer))
             }
             Call::Load(bytes) => {
@@ -76,9 +51,12 @@ impl<M: Measure> Face<M> {
         ensures { Answered M.heights (Shut self) (deed_of call.entry) result.1 result.0 }
     {
         match call {
-            Call::Reopen => (Family::Open(self.reopen()), Some(Answer::Done)),
+            Call::Reopen => (Family::Open(self.reopen()), Some(Ok(Reply::Done))),
             Call::Ask(q) => {
-                let answer = question_answer(self.question(q));
+                let answer = self
+                    .question(q)
+                    .map(Reply::Mixed)
+                    .map_err(CallFault::Question);
                 (Family::Shut(self), Some(answer))
             }
             Call::Release | Call::Place(_) | Call::Load(_) => (Family::Shut(self), None),

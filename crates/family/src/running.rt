@@ -5,8 +5,8 @@ ghost use Rattle.family.specs.Runs.{Lived, draft};
 ghost use Rattle.family.specs.Standing.{stage_of, measure_of, tables_of};
 
 use crate::call::{Answer, Call};
-use crate::draft::Draft;
 use crate::family::Family;
+use crate::staged::Draft;
 use plane::Measure;
 
 impl<M: Measure> Family<M> {
@@ -19,19 +19,20 @@ impl<M: Measure> Family<M> {
     }
 
     // Performs the longest part of the calls from the front that draft and face allow and the buffer has room for, and says how many
-    // these are. Their answers go into the first places of the buffer; later places are left alone.
+    // these are. Their answers go into the first places of the buffer, the caller's, since there is no heap; later places are left alone.
     pub fn run(self, calls: &[Call], answers: &mut [Answer]) -> (Family<M>, usize)
         ensures { Ran M.heights self calls.now answers.old answers.new result.0 result.1 }
     {
         let mut family = self;
         let limit = calls.len().min(answers.len());
-        for n in 0..limit {
-            let (next, answer) = family.perform(calls[n]);
+        for (n, &call) in calls[..limit].iter().enumerate() {
+            let (next, answer) = family.perform(call);
             family = next;
-            match answer {
-                Some(answer) => answers[n] = answer,
-                None => return (family, n),
-            }
+            let Some(answer) = answer else {
+                return (family, n);
+            };
+            // by index: of a slice under zip(iter_mut()) a proof keeps no values
+            answers[n] = answer;
         }
         (family, limit)
     }

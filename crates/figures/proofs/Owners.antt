@@ -1,5 +1,6 @@
 -- The weights of a position in a triangle that owns it: none is negative, and their sum runs from 1 to 4,096².
-use Rattle.std.proofs.Common.{◌≡◌, ℕ, ℤ, pos, ◌+ℤ◌, ◌≤ℤ◌, ◌<ℤ◌, arith}
+use Rattle.std.proofs.Common.{◌≡◌, ℕ, zero, suc, ◌<◌, List, [], ◌∷◌, length, map, get_or, ℤ, pos, ◌+ℤ◌, ◌≤ℤ◌, ◌<ℤ◌, sym, subst, arith}
+use Rattle.std.specs.List.{sum as total}
 use Rattle.std.proofs.lemmas.Int.{ints}
 use Rattle.plane.specs.Plane.{turn, Owns}
 use Rattle.plane.specs.Rings.{AllInPlane}
@@ -7,8 +8,7 @@ use Rattle.plane.specs.declared.Position.{Position}
 use Rattle.plane.proofs.Areas.{turn_at_most}
 use Rattle.plane.proofs.Crossings.{owned}
 use Rattle.plane.specs.Turns.{weights_sum}
-use Rattle.figures.specs.Weights.{Share}
-use Rattle.figures.proofs.Passing.{passed}
+use Rattle.figures.specs.Weights.{Share, sum}
 
 -- Three such weights.
 pub record Shares (x y z : ℤ) : Type 0 where
@@ -30,9 +30,26 @@ shares {q} {a} {b} {c} i o =
     shared _ _ _ w.weight_a.not_right w.weight_b.not_right w.weight_c.not_right
     (omega (arith, ints)) (omega (arith, ints))
 
--- A share is passed on by its bits, and taken as a natural number.
-pub passed_share : {x : ℤ} → Share x → Share (passed x)
-passed_share {x} s = omega (arith, ints)
+-- Each of the three is a share.
+pub share_at : {x y z w : ℤ} → Shares x y z → (k : ℕ) → k < 3 → w ≡ get_or (x ∷ y ∷ z ∷ []) k w → Share w
+share_at s zero l e = subst (λ (v : ℤ). Share v) (sym e) s.first
+share_at s (suc zero) l e = subst (λ (v : ℤ). Share v) (sym e) s.second
+share_at s (suc (suc zero)) l e = subst (λ (v : ℤ). Share v) (sym e) s.third
+share_at s (suc (suc (suc k))) l e = absurd (omega arith)
 
-pub taken : {n : ℕ} {x : ℤ} → Share x → pos n ≡ passed x → pos n ≡ x
-taken s e = omega (arith, ints)
+-- A list of three is its elements.
+pub three_listed : (xs : List ℕ) (x y z : ℤ) → length xs ≡ 3 → pos (get_or xs 0 0) ≡ x → pos (get_or xs 1 0) ≡ y
+    → pos (get_or xs 2 0) ≡ z → map pos xs ≡ x ∷ y ∷ z ∷ []
+three_listed [] x y z l = absurd (omega arith)
+three_listed (a ∷ []) x y z l = absurd (omega arith)
+three_listed (a ∷ b ∷ []) x y z l = absurd (omega arith)
+three_listed (a ∷ b ∷ c ∷ []) x y z l = λ at_x at_y at_z i. at_x i ∷ at_y i ∷ at_z i ∷ []
+three_listed (a ∷ b ∷ c ∷ d ∷ xs) x y z l = absurd (omega arith)
+
+-- The sum of such a list is what std's sum gives.
+pub three_summed : (xs : List ℕ) {x y z : ℤ} → map pos xs ≡ x ∷ y ∷ z ∷ [] → total xs ≡ sum xs
+three_summed [] e = cc
+three_summed (a ∷ []) e = cc
+three_summed (a ∷ b ∷ []) e = cc
+three_summed (a ∷ b ∷ c ∷ []) e = omega arith
+three_summed (a ∷ b ∷ c ∷ d ∷ xs) e = cc

@@ -1,5 +1,7 @@
 -- What kinds of figures have in common.
-use Rattle.std.specs.Prelude.{◌≡◌, ℕ, zero, suc, ◌*◌, ◌≤◌, ◌⊎◌, ℤ, pos, negsuc, ◌≤ℤ◌}
+use Rattle.std.specs.Prelude.{◌≡◌, ℕ, zero, suc, ◌*◌, ◌≤◌, ℤ, pos, negsuc, ◌≤ℤ◌}
+use Rattle.figures.specs.declared.head.Head.{Head}
+use Rattle.figures.specs.declared.head.Head.TheVariants.{Glyph, Pair}
 
 -- The least and the greatest number of a kind.
 pub record Range : Type 0 where
@@ -22,10 +24,14 @@ advance_range = record { least = pos 0; greatest = pos 65535 }
 abbrev pub pair_range : Range
 pair_range = record { least = negsuc 32767; greatest = pos 32767 }
 
--- A row is headed by one glyph number or two, a figure takes two bytes for each of these, and has at most two numbers.
-pub record Shape (bytes headings parts : ℕ) : Type 0 where
-  pub one_or_two : (headings ≡ 1) ⊎ (headings ≡ 2)
-  pub even : bytes ≡ 2 * headings
+-- How many glyph numbers head a row.
+abbrev pub glyphs : Head → ℕ
+glyphs Glyph = 1
+glyphs Pair = 2
+
+-- A figure takes two bytes for each glyph number that heads a row, and has at most two numbers.
+pub record Shape (bytes : ℕ) (head : Head) (parts : ℕ) : Type 0 where
+  pub even : bytes ≡ 2 * glyphs head
   pub few : parts ≤ 2
 
 -- The first number at part 0, the second at the others.

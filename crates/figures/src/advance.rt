@@ -2,9 +2,11 @@
 ghost use Rattle.std.specs.Prelude.{pos};
 ghost use Rattle.figures.specs.Bytes.{word};
 ghost use Rattle.figures.specs.Figures.{advance_range};
+ghost use Rattle.figures.specs.declared.head.Head.TheVariants.{Glyph};
 ghost use Rattle.std.proofs.Common.{rules};
 
 use crate::figure::Figure;
+use crate::head::Head;
 use crate::reading::word_at;
 
 #[derive(Clone, Copy, PartialEq, Eq, Debug)]
@@ -15,13 +17,13 @@ pub struct Advance {
 impl Figure for Advance {
     const BYTES: usize = 2;
 
-    const HEADINGS: usize = 1;
+    const HEAD: Head = Head::Glyph;
 
     type Blend = Advance;
 
-    ghost bytes = { 2 };
+    ghost BYTES = { 2 };
 
-    ghost headings = { 1 };
+    ghost HEAD = { Glyph };
 
     ghost parts = { 1 };
 
@@ -37,14 +39,6 @@ impl Figure for Advance {
 
     ghost narrow = { Prim.search rules };
 
-    fn size() -> usize {
-        Self::BYTES
-    }
-
-    fn heads() -> usize {
-        Self::HEADINGS
-    }
-
     fn unpack(packed: &[u8]) -> Advance {
         Advance {
             value: word_at(packed, 0),
@@ -52,7 +46,7 @@ impl Figure for Advance {
     }
 
     fn part(&self, _p: usize) -> i64 {
-        self.value as i64
+        i64::from(self.value)
     }
 
     fn blend_of(numbers: [i64; 2]) -> Advance {

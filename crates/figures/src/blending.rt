@@ -7,7 +7,6 @@ ghost use Rattle.figures.specs.Figures.{InRange};
 use crate::fault::BlendFault;
 use crate::figure::Figure;
 use crate::mix::Mix;
-use crate::rounding::blended;
 
 // The number of part p that a master has in a row.
 fn number_of<F: Figure>(figures: &[F], master: u8, p: usize) -> i64
@@ -15,7 +14,7 @@ fn number_of<F: Figure>(figures: &[F], master: u8, p: usize) -> i64
     ensures value { (past : F) → result ≡ F.number (slice_index_or figures.now master past) p }
     ensures ranged { InRange F.range result }
 {
-    figures[master as usize].part(p)
+    figures[usize::from(master)].part(p)
 }
 
 // Part p of a blend.
@@ -24,13 +23,8 @@ fn blended_part<F: Figure>(figures: &[F], mix: &Mix, p: usize) -> i64
     ensures value { IsBlend (λ f. F.number f p) figures.now mix.now result }
     ensures ranged { InRange F.range result }
 {
-    let [a, b, c] = mix.masters;
-    let numbers = [
-        number_of(figures, a, p),
-        number_of(figures, b, p),
-        number_of(figures, c, p),
-    ];
-    blended(mix, numbers)
+    let numbers = mix.masters.map(|master| number_of(figures, master, p));
+    mix.blended(numbers)
 }
 
 // The blend of a row of figures, one for each master of the family, by a mix.
@@ -41,9 +35,10 @@ pub fn blend<F: Figure>(figures: &[F], mix: &Mix) -> Result<F::Blend, BlendFault
     ensures whole { IfOk result (λ b. (p : ℕ) → p < F.parts → IsTheOne (λ f. F.number f p) figures.now mix.now (F.yielded b p)) }
     ensures equal { IfOk result (λ b. (p : ℕ) → p < F.parts → IsTheSame (λ f. F.number f p) figures.now mix.now (F.yielded b p)) }
 {
-    if figures.len() != mix.count as usize {
+    if figures.len() != usize::from(mix.count) {
         return Err(BlendFault::Figures);
     }
+    // the two parts that a kind can have: a chain over them is no plainer
     let first = blended_part(figures, mix, 0);
     let second = blended_part(figures, mix, 1);
     Ok(F::blend_of([first, second]))

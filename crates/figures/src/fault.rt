@@ -1,6 +1,7 @@
 //! Why figures are not blended.
-ghost use Rattle.std.specs.Prelude.{◌≡◌};
 ghost use Rattle.figures.specs.Blends.{blend_refusal};
+
+use plane::Fault;
 
 #[derive(Clone, Copy, PartialEq, Eq, Debug)]
 pub enum BlendFault {
@@ -8,11 +9,10 @@ pub enum BlendFault {
     Figures,
 }
 
-impl BlendFault {
-    // The refusal's number.
-    pub fn number(self) -> u8
-        ensures { result ≡ (blend_refusal self).number }
-    {
+impl Fault for BlendFault {
+    ghost refusal = { blend_refusal };
+
+    fn number(self) -> u8 {
         match self {
             BlendFault::Figures => 16,
         }

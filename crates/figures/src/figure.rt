@@ -1,19 +1,22 @@
 //! Kinds of figures.
 ghost use Rattle.std.specs.Prelude.{◌≡◌, ℕ, ◌<◌, List, ℤ, pos, slice_index_or};
+ghost use Rattle.figures.specs.declared.head.Head.{Head};
 ghost use Rattle.figures.specs.Figures.{Range, InRange, Narrow, Shape};
+
+use crate::head::Head;
 
 // A kind of figure: one or two numbers for each master. The ghost members say what its bytes mean and which numbers it has.
 pub trait Figure: Copy {
     // the bytes of one figure
     const BYTES: usize;
     // the glyph numbers that head a row
-    const HEADINGS: usize;
+    const HEAD: Head;
     // what a blend yields
     type Blend;
 
-    ghost bytes: { ℕ };
+    ghost BYTES: { ℕ };
 
-    ghost headings: { ℕ };
+    ghost HEAD: { Head };
     // how many numbers a figure has
     ghost parts: { ℕ };
     // its number of each part, from 0
@@ -24,12 +27,6 @@ pub trait Figure: Copy {
     ghost yielded: { Self.Blend → ℕ → ℤ };
     // the least and the greatest number
     ghost range: { Range };
-
-    fn size() -> usize
-        ensures { result ≡ bytes };
-
-    fn heads() -> usize
-        ensures { result ≡ headings };
 
     // The figure that the bytes begin with; bytes that are not there count as 0.
     fn unpack(packed: &[u8]) -> Self
@@ -44,7 +41,7 @@ pub trait Figure: Copy {
     fn blend_of(numbers: [i64; 2]) -> Self::Blend
         ensures { (p : ℕ) → p < parts → InRange range (slice_index_or numbers p (pos 0)) → yielded result p ≡ slice_index_or numbers p (pos 0) };
 
-    ghost shape: { Shape bytes headings parts };
+    ghost shape: { Shape BYTES HEAD parts };
 
     ghost narrow: { Narrow range };
 }

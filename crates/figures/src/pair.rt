@@ -2,9 +2,11 @@
 ghost use Rattle.std.specs.Prelude.{◌≡◌};
 ghost use Rattle.figures.specs.Bytes.{signed_word};
 ghost use Rattle.figures.specs.Figures.{InRange, by_part, pair_range};
+ghost use Rattle.figures.specs.declared.head.Head.TheVariants.{Pair};
 ghost use Rattle.std.proofs.Common.{rules};
 
 use crate::figure::Figure;
+use crate::head::Head;
 use crate::reading::signed_word_at;
 
 #[derive(Clone, Copy, PartialEq, Eq, Debug)]
@@ -23,13 +25,13 @@ fn narrowed(number: i64) -> i16
 impl Figure for Pair {
     const BYTES: usize = 4;
 
-    const HEADINGS: usize = 2;
+    const HEAD: Head = Head::Pair;
 
     type Blend = Pair;
 
-    ghost bytes = { 4 };
+    ghost BYTES = { 4 };
 
-    ghost headings = { 2 };
+    ghost HEAD = { Pair };
 
     ghost parts = { 2 };
 
@@ -45,14 +47,6 @@ impl Figure for Pair {
 
     ghost narrow = { Prim.search rules };
 
-    fn size() -> usize {
-        Self::BYTES
-    }
-
-    fn heads() -> usize {
-        Self::HEADINGS
-    }
-
     fn unpack(packed: &[u8]) -> Pair {
         Pair {
             along: signed_word_at(packed, 0),
@@ -62,9 +56,9 @@ impl Figure for Pair {
 
     fn part(&self, p: usize) -> i64 {
         if p == 0 {
-            self.along as i64
+            i64::from(self.along)
         } else {
-            self.across as i64
+            i64::from(self.across)
         }
     }
 

@@ -1,32 +1,24 @@
-//! Reading numbers of two bytes.
-ghost use Rattle.std.specs.Prelude.{◌≡◌, ◌+◌, ◌<◌, [], ◌∷◌, slice_index};
+//! Reading numbers of two bytes, the high byte first. Bytes that are not there count as 0.
+ghost use Rattle.std.specs.Prelude.{◌≡◌, slice_index};
 ghost use Rattle.figures.specs.Bytes.{word, signed_word};
 
-// The byte at a place, 0 where there is none.
 fn byte_at(bytes: &[u8], place: usize) -> u8
     ensures { result ≡ slice_index bytes.now place }
 {
-    if place < bytes.len() { bytes[place] } else { 0 }
+    bytes.get(place).copied().unwrap_or(0)
 }
 
-// The two bytes from a place near the start on.
-fn two_bytes(bytes: &[u8], place: usize) -> [u8; 2]
-    requires { place < 4 }
-    ensures { result ≡ slice_index bytes.now place ∷ slice_index bytes.now (place + 1) ∷ [] }
-{
-    [byte_at(bytes, place), byte_at(bytes, place + 1)]
-}
-
-pub(crate) fn word_at(bytes: &[u8], place: usize) -> u16
-    requires { place < 4 }
+// The number in the two bytes from a place on.
+pub fn word_at(bytes: &[u8], place: usize) -> u16
     ensures { result ≡ word bytes.now place }
 {
-    u16::from_be_bytes(two_bytes(bytes, place))
+    // no slice reaches the last place of all, so both bytes are 0 there
+    let next = place.saturating_add(1);
+    u16::from_be_bytes([byte_at(bytes, place), byte_at(bytes, next)])
 }
 
 pub(crate) fn signed_word_at(bytes: &[u8], place: usize) -> i16
-    requires { place < 4 }
     ensures { result ≡ signed_word bytes.now place }
 {
-    i16::from_be_bytes(two_bytes(bytes, place))
+    word_at(bytes, place).cast_signed()
 }

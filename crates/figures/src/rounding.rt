@@ -13,26 +13,7 @@ fn product(weight: u32, number: i64) -> i64
     ensures value { result ≡ pos weight *ℤ number }
     ensures bound { Size result 1099511627776 }
 {
-    weight as i64 * number
-}
-
-// The number of a mix's master i, times the master's weight.
-fn term(mix: &Mix, numbers: [i64; 3], i: usize) -> i64
-    requires place { i < 3 }
-    requires numbers { Small numbers }
-    ensures value { result ≡ pos (slice_index mix.now.weights i) *ℤ slice_index_or numbers i (pos 0) }
-    ensures bound { Size result 1099511627776 }
-{
-    product(mix.weights[i], numbers[i])
-}
-
-// The sum of three numbers by their weights, below 2^42.
-fn weighted_sum(mix: &Mix, numbers: [i64; 3]) -> i64
-    requires { Small numbers }
-    ensures value { result ≡ weighted_sum mix.now (λ i. get_or numbers i (pos 0)) }
-    ensures bound { Size result 4398046511104 }
-{
-    term(mix, numbers, 0) + term(mix, numbers, 1) + term(mix, numbers, 2)
+    i64::from(weight) * number
 }
 
 // The quotient, rounded down.
@@ -48,7 +29,7 @@ fn doubled(total: u32) -> i64
     requires { total ≤ 16777216 }
     ensures { result ≡ pos (2 * total) }
 {
-    2 * total as i64
+    2 * i64::from(total)
 }
 
 // Twice a sum, with the total added: divided by twice the total, it is the mean and a half.
@@ -57,14 +38,29 @@ fn raised(sum: i64, total: u32) -> i64
     requires most { total ≤ 16777216 }
     ensures { result ≡ pos 2 *ℤ sum +ℤ pos total }
 {
-    2 * sum + total as i64
+    2 * sum + i64::from(total)
 }
 
-// The blend of three numbers, one for each master of a mix.
-pub(crate) fn blended(mix: &Mix, numbers: [i64; 3]) -> i64
-    requires { Small numbers }
-    ensures { result ≡ blended_number mix.now (λ i. get_or numbers i (pos 0)) }
-{
-    let sum = weighted_sum(mix, numbers);
-    floor_quotient(raised(sum, mix.total), doubled(mix.total))
+impl Mix {
+    // The sum of three numbers by their weights, below 2^42.
+    fn weighted_sum(&self, numbers: [i64; 3]) -> i64
+        requires { Small numbers }
+        ensures value { result ≡ weighted_sum self.now (λ i. get_or numbers i (pos 0)) }
+        ensures bound { Size result 4398046511104 }
+    {
+        let mut sum = 0;
+        for (weight, number) in self.weights.iter().zip(&numbers) {
+            sum += product(*weight, *number);
+        }
+        sum
+    }
+
+    // The blend of three numbers, one for each master.
+    pub(crate) fn blended(&self, numbers: [i64; 3]) -> i64
+        requires { Small numbers }
+        ensures { result ≡ blended_number self.now (λ i. get_or numbers i (pos 0)) }
+    {
+        let sum = self.weighted_sum(numbers);
+        floor_quotient(raised(sum, self.total), doubled(self.total))
+    }
 }

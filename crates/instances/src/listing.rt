@@ -3,6 +3,7 @@ ghost use Rattle.std.specs.Prelude.{◌≡◌, IfOk, string_bytes};
 ghost use Rattle.sheet.specs.Refusals.{sheet_refused};
 ghost use Rattle.instances.specs.Listing.{report_text};
 
+use plane::Fault;
 use sheet::Sheet;
 use std::alloc::{AllocError, Global};
 
@@ -11,13 +12,11 @@ pub fn report(heap: Global, bytes: &[u8]) -> Result<String, AllocError>
     ensures { IfOk result (λ text. string_bytes text ≡ report_text (sheet_refused bytes.now)) }
 {
     let mut sheet = Sheet::fresh();
-    match sheet.check(bytes) {
-        Ok(()) => Ok(String::new(heap)),
-        Err(fault) => {
-            let number = fault.number();
-            format!(in heap; "sheet refused {number}\n")
-        }
-    }
+    let Err(fault) = sheet.check(bytes) else {
+        return Ok(String::new(heap));
+    };
+    let number = fault.number();
+    format!(in heap; "sheet refused {number}\n")
 }
 
 #[cfg(test)]

@@ -10,10 +10,7 @@ use listing::report;
 fn main(rt: HostRuntime) -> io::Result<()> {
     let heap = rt.alloc();
     // a file that is missing or cannot be read counts as a sheet of 0 bytes
-    let bytes = match fs::read(&rt, "family.sheet") {
-        Ok(bytes) => bytes,
-        Err(_) => Vec::new(heap),
-    };
+    let bytes = fs::read(&rt, "family.sheet").unwrap_or_else(|_| Vec::new(heap));
     let text = report(heap, bytes.as_slice())?;
     rt.print(text)
 }

@@ -1,13 +1,11 @@
--- Where none of the first rows applies, the others decide, and the position lies in the plane.
-use Rattle.std.proofs.Common.{◌≡◌, ℕ, ◌≤◌, Bool, true, false, cond, not, ltb, List, [], ◌∷◌, ◌++◌, map, length, Some, None, Option, sym, refl, ap, ◌∙◌, arith, ltb-true}
-use Rattle.std.proofs.lemmas.Bool.{and_parts}
+-- Where none of the first rows applies, the others decide.
+use Rattle.std.proofs.Common.{◌≡◌, ℕ, Bool, true, false, cond, List, [], ◌∷◌, ◌++◌, map, length, Some, None, Option, sym, refl, ap, ◌∙◌, arith}
 use Rattle.plane.specs.declared.position.Position.{Position}
-use Rattle.plane.specs.Plane.{InPlane}
 use Rattle.plane.specs.Refusal.{Refusal, Row, first}
 use Rattle.plane.specs.Measures.{Heights}
 use Rattle.mesh.specs.Opened.{Opened, Placed}
 use Rattle.mesh.specs.Placing.{kills, placed_nodes, placed}
-use Rattle.mesh.specs.Refusals.{inside, master_rows, nodes_row, place_rows}
+use Rattle.mesh.specs.Refusals.{master_rows, nodes_row, place_rows}
 use Rattle.mesh.specs.Tree.{Mesh}
 
 some_none : {r : Refusal} → Some r ≡ None → ⊥
@@ -22,24 +20,7 @@ after_none (row ∷ rows) more e = by row.applies e (after_none rows more)
     by true f ih = absurd (some_none f)
     by false f ih = ih f
 
-pub inside_in_plane : (p : Position) → inside p ≡ true → InPlane p
-inside_in_plane p e =
-    let rest = (and_parts (ltb 0 p.u) _ e).1 in
-    let u = and_parts (ltb p.u 4096) _ rest in
-    let v = and_parts (ltb 0 p.v) (ltb p.v 4096) u.1 in
-    record { u_in = below p.u u.0; v_in = below p.v v.1 }
-  where
-    below : (n : ℕ) → ltb n 4096 ≡ true → n ≤ 4096
-    below n f = omega (arith, ltb-true n 4096 f)
-
-unless_refused : (b : Bool) (r : Refusal) (o : Option Refusal) → cond (not b) (Some r) o ≡ None → b ≡ true
-unless_refused true r o f = refl
-unless_refused false r o f = absurd (some_none f)
-
 module _ (h : Heights) (m : Mesh) (p : Position) where
-  pub admitted_inside : None ≡ first (master_rows m.masters p) → InPlane p
-  admitted_inside e = inside_in_plane p (unless_refused (inside p) _ _ (sym e))
-
   -- With the killed nodes of the definition, opening the tables is placing.
   module _ (doomed : List Bool) (e : doomed ≡ map (kills h m.masters p) m.nodes) where
     pub place_refuses : None ≡ first (master_rows m.masters p) → (o : Option Refusal) →

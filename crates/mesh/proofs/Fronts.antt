@@ -1,7 +1,7 @@
--- The front of a list, by its own length.
-use Rattle.std.proofs.Common.{◌≡◌, ℕ, zero, suc, List, [], ◌∷◌, length, take, refl, ap}
+-- The front of a list.
+use Rattle.std.proofs.Common.{◌≡◌, ℕ, List, ◌++◌, length, take, ◌∙◌, arith}
+use Rattle.std.proofs.lemmas.List.{take-append-le, take_all}
 
-pub take_own : {X : Type 0} (n : ℕ) (xs : List X) → take (length (take n xs)) xs ≡ take n xs
-take_own zero xs = refl
-take_own (suc n) [] = refl
-take_own (suc n) (x ∷ xs) = ap (λ ys. x ∷ ys) (take_own n xs)
+-- What stands before the rest.
+pub front_is : {X : Type 0} (n : ℕ) (xs ys zs : List X) → length xs ≡ n → xs ≡ zs → take n (xs ++ ys) ≡ zs
+front_is n xs ys zs long is = take-append-le n xs ys (omega arith) ∙ take_all n xs (omega arith) ∙ is

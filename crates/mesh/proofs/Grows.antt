@@ -1,10 +1,10 @@
 -- Growth, one edge on, and marking, one node on: what is left makes the rest.
 use Rattle.std.proofs.Common.{◌≡◌, ℕ, ◌+◌, ◌<◌, ◌≤◌, Bool, true, false, cond, List, [], ◌∷◌, ◌++◌, length, get_or, take, drop, set, sym, ap, ◌∙◌, append_assoc, add-one, arith}
 use lib.Seq.{take-set-lt}
-use Rattle.std.proofs.lemmas.List.{at_drop_more, at_drop_all, append-nil, get_or-take, take_more, take_more_set, drop-set-lt, length-take-le}
+use Rattle.std.proofs.lemmas.List.{at_drop_more, get_or-take, take_more, take_more_set, drop-set-lt, length-take-le}
 use Rattle.mesh.specs.declared.node.Node.{Node}
 use Rattle.mesh.specs.Edges.{no_edge}
-use Rattle.mesh.specs.Placing.{Edge, no_node, with_son, with_neighbour, with_killer, changed, changed_if, new_node, hole, grown, marked, placed_nodes}
+use Rattle.mesh.specs.Placing.{Edge, no_node, with_son, with_neighbour, with_killer, changed, changed_if, new_node, grown, marked}
 
 -- What one edge makes of n nodes.
 abbrev pub one_more : ℕ → ℕ → List Edge → Edge → ℕ → List Node → List Node
@@ -54,21 +54,3 @@ module _ (p : ℕ) (doomed : List Bool) (n : ℕ) (before ns : List Node) (i : �
       let step = marked_step p doomed i (take n ns) e within in
       let more = take_more ns i no_node (omega arith) in
       rw more (append_assoc (take i ns) (get_or ns i no_node ∷ []) rest ∙ ap (λ r. take i ns ++ r) (ap (λ y. y ∷ rest) (sym here) ∙ sym step) ∙ m)
-
-pub mark_all : (p : ℕ) (doomed : List Bool) (n : ℕ) (before ns : List Node) → n ≤ length ns → Marking p doomed n before ns n →
-    take n ns ≡ marked p doomed 0 (take n before)
-mark_all p doomed n before ns l m =
-    sym (append-nil (take n ns))
-    ∙ ap (λ r. take n ns ++ r) (sym (at_drop_all (marked p doomed n) (take n ns) n (omega (arith, length-take-le n ns l))))
-    ∙ m
-
--- Marking and growth together make what the definition says, where the first `used` of a table are `front`.
-pub opened_nodes : (used n k : ℕ) (doomed : List Bool) (es : List Edge) (table marks grows front : List Node) →
-    take used table ≡ front → used ≡ length front → length doomed ≡ used → es ≡ hole doomed 0 front → k ≡ length es →
-    take (length doomed) marks ≡ marked n doomed 0 (take (length doomed) table) →
-    take (used + length es) grows ≡ grown used n es es (take used marks) →
-    take (used + k) grows ≡ placed_nodes n doomed front
-opened_nodes used n k doomed es table marks grows front f u d e c m g =
-    let marked_front : take used marks ≡ marked n doomed 0 front = cc in
-    let all : take (used + k) grows ≡ grown (length front) n es es (marked n doomed 0 front) = cc in
-    all ∙ ap (λ (xs : List Edge). grown (length front) n xs xs (marked n doomed 0 front)) e

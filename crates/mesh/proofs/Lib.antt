@@ -1,8 +1,8 @@
 mod Admitted
 mod Changes
 mod Fronts
-mod Gathered
 mod Grows
 mod Holes
+mod Made
 mod Searches
 mod Shown

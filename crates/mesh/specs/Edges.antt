@@ -1,8 +1,6 @@
 -- More on the edges of a hole: by which words the proofs and the code's contracts speak of them.
 use Rattle.std.specs.Prelude.{ℕ, Bool, List, None, ◌++◌}
 use Rattle.mesh.specs.declared.edge.Edge as code
-use Rattle.mesh.specs.declared.edge.Tip.{Tip}
-use Rattle.mesh.specs.declared.edge.Tip.TheVariants.{From, To}
 use Rattle.mesh.specs.declared.node.Node.{Node}
 use Rattle.mesh.specs.Placing.{Edge, start, finish, across, side_edges}
 
@@ -21,11 +19,6 @@ edge_of i n e = record { father = i; side = e; from = start n e; to = finish n e
 -- The edges of a killed node that belong to the hole.
 abbrev pub node_edges : List Bool → ℕ → Node → List Edge
 node_edges doomed i n = side_edges doomed i n 0 ++ (side_edges doomed i n 1 ++ side_edges doomed i n 2)
-
--- The master at an end of an edge.
-abbrev pub end_of : Tip → Edge → ℕ
-end_of From e = e.from
-end_of To e = e.to
 
 -- An edge as the code keeps it is the edge with the same entries.
 abbrev pub shown : code.Edge → Edge

@@ -1,5 +1,5 @@
 //! Fresh tables.
-ghost use Rattle.std.specs.Prelude.{◌≡◌, [], ◌∷◌, ◌+ℤ◌};
+ghost use Rattle.std.specs.Prelude.{◌≡◌, ◌+ℤ◌};
 ghost use Rattle.mesh.specs.Lists.{in_use};
 ghost use Rattle.mesh.specs.Tree.{flat_diagonal, first_nodes, fresh};
 
@@ -29,19 +29,19 @@ fn is_flat<M: Measure>(measure: &M) -> bool
 }
 
 // The first two nodes: neighbours across the diagonal 0–2, or across 1–3.
-fn first_pair(flat: bool) -> (Node, Node)
-    ensures { result.0 ∷ result.1 ∷ [] ≡ first_nodes flat }
+fn first_pair<M: Measure>(measure: &M) -> [Node; 2]
+    ensures { result ≡ first_nodes (flat_diagonal (M.heights measure.now)) }
 {
-    if flat {
-        (
+    if is_flat(measure) {
+        [
             Node::born([0, 1, 2], [None, None, Some(1)], None, None),
             Node::born([0, 2, 3], [Some(0), None, None], None, None),
-        )
+        ]
     } else {
-        (
+        [
             Node::born([0, 1, 3], [None, Some(1), None], None, None),
             Node::born([1, 2, 3], [None, None, Some(0)], None, None),
-        )
+        ]
     }
 }
 
@@ -50,13 +50,11 @@ impl Tables {
     pub fn fresh<M: Measure>(measure: &M) -> Tables
         ensures { in_use result ≡ fresh (M.heights measure.now) }
     {
-        let (first, second) = first_pair(is_flat(measure));
+        let pair = first_pair(measure);
         let mut positions = [CORNERS[0]; MOST_MASTERS];
-        positions[1] = CORNERS[1];
-        positions[2] = CORNERS[2];
-        positions[3] = CORNERS[3];
-        let mut nodes = [first; MOST_NODES];
-        nodes[1] = second;
+        positions[..4].copy_from_slice(&CORNERS);
+        let mut nodes = [pair[0]; MOST_NODES];
+        nodes[..2].copy_from_slice(&pair);
         Tables {
             positions,
             count: 4,

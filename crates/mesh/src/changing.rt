@@ -9,6 +9,7 @@ use crate::node::Node;
 fn put(places: &mut [Option<u16>], at: usize, number: u16)
     ensures { places.new ≡ slice_set places.old at (Some number) }
 {
+    // by index: no contract says what a slice holds after a write through get_mut
     if at < places.len() {
         places[at] = Some(number);
     }
@@ -24,7 +25,7 @@ impl Node {
     pub(crate) fn add_son(&mut self, side: u8, son: u16)
         ensures { self.new ≡ with_son side son self.old }
     {
-        put(&mut self.sons, side as usize, son);
+        put(&mut self.sons, usize::from(side), son);
     }
 
     // What stands across a side where the edge from b to a gets a new neighbour.
@@ -43,10 +44,6 @@ impl Node {
     pub(crate) fn set_neighbour(&mut self, a: u8, b: u8, neighbour: u16)
         ensures { self.new ≡ with_neighbour a b neighbour self.old }
     {
-        self.neighbours = [
-            self.entry(a, b, neighbour, 0),
-            self.entry(a, b, neighbour, 1),
-            self.entry(a, b, neighbour, 2),
-        ];
+        self.neighbours = std::array::from_fn(|side| self.entry(a, b, neighbour, side));
     }
 }

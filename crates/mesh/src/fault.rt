@@ -1,6 +1,7 @@
 //! Why a node is not given, and why a master is not placed.
-ghost use Rattle.std.specs.Prelude.{◌≡◌};
 ghost use Rattle.mesh.specs.Refusals.{node_refusal, place_refusal};
+
+use plane::Fault;
 
 #[derive(Clone, Copy, PartialEq, Eq, Debug)]
 pub enum NodeFault {
@@ -8,11 +9,10 @@ pub enum NodeFault {
     NoSuchNode,
 }
 
-impl NodeFault {
-    // The refusal's number.
-    pub fn number(self) -> u8
-        ensures { result ≡ (node_refusal self).number }
-    {
+impl Fault for NodeFault {
+    ghost refusal = { node_refusal };
+
+    fn number(self) -> u8 {
         match self {
             NodeFault::NoSuchNode => 6,
         }
@@ -31,11 +31,10 @@ pub enum PlaceFault {
     NodesFull,
 }
 
-impl PlaceFault {
-    // The refusal's number.
-    pub fn number(self) -> u8
-        ensures { result ≡ (place_refusal self).number }
-    {
+impl Fault for PlaceFault {
+    ghost refusal = { place_refusal };
+
+    fn number(self) -> u8 {
         match self {
             PlaceFault::NotInside => 2,
             PlaceFault::Taken(_) => 3,

@@ -9,16 +9,12 @@ use crate::hole::Hole;
 use crate::node::Node;
 use crate::tables::MOST_NODES;
 
-// The edge after an edge, round a node.
+// The edge after an edge, round a node. Edges are numbers and no enum, since each is a place in the node's arrays.
 pub(crate) fn next_side(side: usize) -> usize
     ensures value { result ≡ next side }
     ensures bound { result < 3 }
 {
-    match side {
-        0 => 1,
-        1 => 2,
-        _ => 0,
-    }
+    if side < 2 { side + 1 } else { 0 }
 }
 
 impl Node {
@@ -41,13 +37,7 @@ impl Node {
 fn remains(doomed: &[bool], beyond: Option<u16>) -> bool
     ensures { result ≡ stays doomed.now beyond }
 {
-    match beyond {
-        None => true,
-        Some(j) => {
-            let j = j as usize;
-            if j < doomed.len() { !doomed[j] } else { true }
-        }
-    }
+    beyond.is_none_or(|j| !doomed.get(usize::from(j)).copied().unwrap_or(false))
 }
 
 impl Hole {
@@ -55,15 +45,8 @@ impl Hole {
         ensures gathered { Gathered result [] }
         ensures none { result.count ≡ 0 }
     {
-        let edge = Edge {
-            father: 0,
-            side: 0,
-            from: 0,
-            to: 0,
-            beyond: None,
-        };
         Hole {
-            edges: [edge; MOST_NODES],
+            edges: [Edge::default(); MOST_NODES],
             count: 0,
         }
     }
@@ -74,22 +57,11 @@ impl Hole {
         ensures gathered { (es : List HoleEdge) → Gathered self.old es → Gathered self.new (es ++ shown edge ∷ []) }
         ensures more { self.new.count ≡ self.old.count + 1 }
     {
+        // by index: no contract says what an array holds after a write through get_mut
         if self.count < MOST_NODES {
             self.edges[self.count] = edge;
         }
         self.count += 1;
-    }
-
-    // The edge of a killed node, where it belongs to the hole.
-    fn add_side(&mut self, doomed: &[bool], node: &Node, number: u16, side: usize)
-        requires { (self.old.count < 65536) × (side < 3) }
-        ensures gathered { (es : List HoleEdge) → Gathered self.old es
-            → Gathered self.new (es ++ side_edges doomed.now number node.now side) }
-        ensures most { self.new.count ≤ self.old.count + 1 }
-    {
-        if remains(doomed, node.neighbours[side]) {
-            self.add(node.edge(number, side));
-        }
     }
 
     // The edges of a killed node that belong to the hole.
@@ -99,9 +71,11 @@ impl Hole {
             → Gathered self.new (es ++ node_edges doomed.now number node.now) }
         ensures most { self.new.count ≤ self.old.count + 3 }
     {
-        self.add_side(doomed, node, number, 0);
-        self.add_side(doomed, node, number, 1);
-        self.add_side(doomed, node, number, 2);
+        for side in 0..3 {
+            if remains(doomed, node.neighbours[side]) {
+                self.add(node.edge(number, side));
+            }
+        }
     }
 
     // The hole where these nodes are killed.
@@ -111,8 +85,8 @@ impl Hole {
         ensures few { result.count ≤ 3072 }
     {
         let mut hole = Hole::empty();
-        for (i, node) in nodes.iter().enumerate() {
-            if doomed[i] {
+        for (i, (node, killed)) in nodes.iter().zip(doomed).enumerate() {
+            if *killed {
                 hole.add_node(doomed, node, i as u16);
             }
         }

@@ -1,6 +1,7 @@
 //! The tables without their filler.
 ghost use Rattle.std.specs.Prelude.{◌≡◌, ◌≤◌, length, take};
 ghost use Rattle.mesh.specs.Lists.{in_use};
+ghost use Rattle.mesh.specs.Placing.{Housed};
 
 use crate::node::Node;
 use crate::tables::Tables;
@@ -11,7 +12,7 @@ pub(crate) fn front<T>(table: &[T], n: usize) -> &[T]
     ensures value { result.now ≡ take n table.now }
     ensures most { length result.now ≤ length table.now }
 {
-    if n < table.len() { &table[..n] } else { table }
+    table.get(..n).unwrap_or(table)
 }
 
 impl Tables {
@@ -19,6 +20,7 @@ impl Tables {
     pub fn masters(&self) -> &[Position]
         ensures value { result.now ≡ (in_use self.now).masters }
         ensures most { length result.now ≤ 128 }
+        ensures housed { Housed result.now }
     {
         front(&self.positions, self.count)
     }

@@ -1,58 +1,61 @@
 //! Which nodes a new master kills.
-ghost use Rattle.std.specs.Prelude.{◌≡◌, ℕ, ◌<◌, ◌≤◌, false, take, slice_index_or};
+ghost use Rattle.std.specs.Prelude.{◌≡◌, ℕ, ◌<◌, ◌≤◌, false, map, length, take, slice_index_or};
 ghost use Rattle.plane.specs.Plane.{InPlane};
-ghost use Rattle.mesh.specs.Lists.{in_use};
-ghost use Rattle.mesh.specs.Placing.{stand, Housed, holds, kills, no_node};
+ghost use Rattle.mesh.specs.Placing.{Housed, holds, kills, no_node};
 
 use crate::node::Node;
-use crate::tables::{MOST_NODES, Tables};
-use plane::{Measure, Position, ring};
+use crate::tables::MOST_NODES;
+use crate::vertices::vertices_of;
+use plane::{Measure, Position};
 
-// The position of a master among the first `count` of a table; corner 0 where there is no such master.
-fn stand_at(positions: &[Position], count: usize, m: u8) -> Position
-    ensures { result ≡ stand (take count positions.now) m }
-{
-    let m = m as usize;
-    if m < count && m < positions.len() {
-        positions[m]
-    } else {
-        Position { u: 0, v: 0 }
-    }
+// A new master at p, beside the masters that stand already, all in the plane.
+#[derive(Drop)]
+pub(crate) struct Newcomer<'a, M> {
+    pub(crate) measure: &'a M,
+    pub(crate) masters: &'a [Position],
+    pub(crate) p: Position,
+    ghost housed: { Housed masters.now },
+    ghost inside: { InPlane p },
 }
 
-// Whether the ring of a node holds p.
-fn ring_holds<M: Measure>(measure: &M, tables: &Tables, node: &Node, p: Position) -> bool
-    ensures { Housed (in_use tables.now).masters → InPlane p
-        → result ≡ holds (M.heights measure.now) (in_use tables.now).masters p node.now }
-{
-    let a = stand_at(&tables.positions, tables.count, node.masters[0]);
-    let b = stand_at(&tables.positions, tables.count, node.masters[1]);
-    let c = stand_at(&tables.positions, tables.count, node.masters[2]);
-    match ring(measure, a, b, c, p) {
-        Some(k) => k > 0,
-        None => false,
+impl<M: Measure> Newcomer<'_, M> {
+    // Whether the ring of a node holds it.
+    fn is_held(&self, node: &Node) -> bool
+        ensures { result ≡ holds (M.heights self.now.measure.now) self.now.masters.now self.now.p node.now }
+    {
+        vertices_of(self.masters, node)
+            .ring(self.measure, self.p)
+            .is_some_and(|k| k > 0)
     }
-}
 
-// Whether p kills a node: it is live, and its ring holds p.
-fn is_killed<M: Measure>(measure: &M, tables: &Tables, node: &Node, p: Position) -> bool
-    ensures { Housed (in_use tables.now).masters → InPlane p
-        → result ≡ kills (M.heights measure.now) (in_use tables.now).masters p node.now }
-{
-    node.killer.is_none() && ring_holds(measure, tables, node, p)
-}
-
-// Of each node in use, whether p kills it.
-pub(crate) fn doomed<M: Measure>(measure: &M, tables: &Tables, p: Position) -> [bool; MOST_NODES]
-    requires { tables.now.used ≤ 1024 }
-    ensures killed { Housed (in_use tables.now).masters → InPlane p
-        → (i : ℕ) → i < tables.now.used → slice_index_or result i false ≡ kills (M.heights measure.now)
-        (in_use tables.now).masters p (slice_index_or tables.now.nodes i no_node) }
-    ensures others { (i : ℕ) → tables.now.used ≤ i → slice_index_or result i false ≡ false }
-{
-    let mut out = [false; MOST_NODES];
-    for i in 0..tables.used {
-        out[i] = is_killed(measure, tables, &tables.nodes[i], p);
+    // Whether it kills a node, which is live and whose ring holds it.
+    fn kills(&self, node: &Node) -> bool
+        ensures { result ≡ kills (M.heights self.now.measure.now) self.now.masters.now self.now.p node.now }
+    {
+        node.killer.is_none() && self.is_held(node)
     }
-    out
+
+    // Whether it kills the node of a number, where there is one.
+    fn kills_at(&self, nodes: &[Node], number: usize) -> bool
+        ensures { result ≡ slice_index_or (map (kills (M.heights self.now.measure.now) self.now.masters.now self.now.p)
+            nodes.now) number false }
+    {
+        // by match: the proof over is_some_and did not close, since its closure hides the fields of self
+        match nodes.get(number) {
+            Some(node) => self.kills(node),
+            None => false,
+        }
+    }
+
+    // Of each node, whether it is killed; false past the nodes. A fixed array, since placing has no heap.
+    pub(crate) fn doomed(&self, nodes: &[Node]) -> [bool; MOST_NODES]
+        requires { length nodes.now ≤ 1024 }
+        ensures all { take (length nodes.now) result
+            ≡ map (kills (M.heights self.now.measure.now) self.now.masters.now self.now.p) nodes.now }
+        ensures killed { (i : ℕ) → i < length nodes.now → slice_index_or result i false
+            ≡ kills (M.heights self.now.measure.now) self.now.masters.now self.now.p (slice_index_or nodes.now i no_node) }
+        ensures others { (i : ℕ) → length nodes.now ≤ i → slice_index_or result i false ≡ false }
+    {
+        std::array::from_fn(|i| self.kills_at(nodes, i))
+    }
 }

@@ -9,7 +9,6 @@ mod gathering;
 mod growing;
 mod hole;
 mod in_use;
-mod killed_nodes;
 mod killing;
 mod node;
 mod placing;

@@ -3,6 +3,8 @@ ghost use Rattle.std.specs.Prelude.{◌≡◌};
 ghost use Rattle.mesh.specs.Tree.{born};
 
 // A triangle of the tree. Its edges 0, 1 and 2 run from each master to the next. A node without a killer is live.
+// Parallel arrays take 38 bytes; an array of three sides would take 40, since each side would be padded. Nodes name one another by
+// number, since one is named by several and there is no heap.
 #[derive(Clone, Copy, PartialEq, Eq, Debug)]
 pub struct Node {
     // the numbers of its masters, which turn left
@@ -34,7 +36,7 @@ impl Node {
             father,
             stepfather,
             killer: None,
-            sons: [None, None, None],
+            sons: [None; 3],
         }
     }
 }

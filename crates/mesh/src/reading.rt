@@ -1,5 +1,5 @@
 //! Reading the tables.
-ghost use Rattle.std.specs.Prelude.{◌≡◌, take, IfOk, slice_index_or};
+ghost use Rattle.std.specs.Prelude.{◌≡◌, IfOk, slice_index_or};
 ghost use Rattle.plane.specs.Refusal.{refused, first};
 ghost use Rattle.mesh.specs.Lists.{in_use};
 ghost use Rattle.mesh.specs.Refusals.{node_refusal, node_rows};
@@ -10,23 +10,15 @@ use crate::fault::NodeFault;
 use crate::node::Node;
 use crate::tables::Tables;
 
-// The node of a number among the first `used` of a table.
-fn node_at(nodes: &[Node], used: usize, number: usize) -> Result<Node, NodeFault>
-    ensures takes { IfOk result (λ n. (d : ANode) → n ≡ slice_index_or (take used nodes.now) number d) }
-    ensures refuses { refused node_refusal result ≡ first (node_rows (take used nodes.now) number) }
-{
-    if number >= used || number >= nodes.len() {
-        return Err(NodeFault::NoSuchNode);
-    }
-    Ok(nodes[number])
-}
-
 impl Tables {
     // The node of a number.
     pub fn node(&self, number: usize) -> Result<Node, NodeFault>
         ensures takes { IfOk result (λ n. (d : ANode) → n ≡ slice_index_or (in_use self.now).nodes number d) }
         ensures refuses { refused node_refusal result ≡ first (node_rows (in_use self.now).nodes number) }
     {
-        node_at(&self.nodes, self.used, number)
+        self.nodes()
+            .get(number)
+            .copied()
+            .ok_or(NodeFault::NoSuchNode)
     }
 }

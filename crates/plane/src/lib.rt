@@ -2,6 +2,7 @@
 #![tactic(auto)]
 
 mod exact;
+mod fault;
 mod measure;
 mod optical;
 mod optical_table;
@@ -9,13 +10,15 @@ mod orientation;
 mod ownership;
 mod position;
 mod ring_test;
+mod triangle;
 mod weighing;
 mod weighted;
 
+pub use fault::Fault;
 pub use measure::{Measure, MeasureFault};
 pub use optical::Optical;
-pub use orientation::{turn, weights};
-pub use ownership::{crossing, owns};
+pub use orientation::turn;
+pub use ownership::crossing;
 pub use position::Position;
-pub use ring_test::ring;
+pub use triangle::Triangle;
 pub use weighted::Weighted;

@@ -3,12 +3,14 @@ ghost use Rattle.std.specs.Prelude.{◌≡◌};
 ghost use Rattle.plane.specs.Measures.{Heights, Bounded, Supported};
 ghost use Rattle.plane.specs.Weighted.{measure_refusal};
 
+use crate::fault::Fault;
 use crate::position::Position;
 
 // A height for each position. The engine learns nothing of a measure but heights and the two laws.
 pub trait Measure {
     ghost heights: { Self → Heights };
 
+    // Each measure tests the plane itself: a body given here would want a second height, for the plane alone.
     fn height(&self, p: Position) -> i64
         ensures { result ≡ heights self.now p };
 
@@ -26,11 +28,10 @@ pub enum MeasureFault {
     Weights,
 }
 
-impl MeasureFault {
-    // The refusal's number.
-    pub fn number(self) -> u8
-        ensures { result ≡ (measure_refusal self).number }
-    {
+impl Fault for MeasureFault {
+    ghost refusal = { measure_refusal };
+
+    fn number(self) -> u8 {
         match self {
             MeasureFault::Weights => 1,
         }

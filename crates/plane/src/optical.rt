@@ -16,6 +16,7 @@ fn entry(k: u16) -> u32
     requires { k ≤ 4096 }
     ensures { result ≡ optic k }
 {
+    // not usize::from: the proof reads the table at the cast
     TABLE[k as usize]
 }
 
@@ -28,7 +29,7 @@ impl Measure for Optical {
 
     fn height(&self, p: Position) -> i64 {
         if p.in_plane() {
-            entry(p.u) as i64 + entry(p.v) as i64
+            i64::from(entry(p.u)) + i64::from(entry(p.v))
         } else {
             0
         }

@@ -1,5 +1,5 @@
-//! Turns and weights.
-ghost use Rattle.std.specs.Prelude.{◌≡◌, ℕ, ◌+◌, ◌*◌, ◌≤◌, [], ◌∷◌, pos, ◌-ℤ◌, ◌*ℤ◌};
+//! Turns.
+ghost use Rattle.std.specs.Prelude.{◌≡◌, ℕ, ◌+◌, ◌*◌, ◌≤◌, pos, ◌-ℤ◌, ◌*ℤ◌};
 ghost use Rattle.plane.specs.Plane.{turn, Size, Spans};
 
 use crate::exact::{difference, product};
@@ -10,7 +10,7 @@ fn gap(from: u16, to: u16) -> i64
     ensures value { result ≡ pos to -ℤ pos from }
     ensures bound { (m : ℕ) → from ≤ m → to ≤ m → Size result m }
 {
-    to as i64 - from as i64
+    i64::from(to) - i64::from(from)
 }
 
 // The rectangle that two gaps span.
@@ -29,11 +29,4 @@ pub fn turn(a: Position, b: Position, c: Position) -> i64
     let rising = rectangle(a.u, b.u, a.v, c.v);
     let falling = rectangle(a.v, b.v, a.u, c.u);
     difference(rising, falling)
-}
-
-// The weights of q in a, b and c. They sum to the turn of a, b, c.
-pub fn weights(q: Position, a: Position, b: Position, c: Position) -> [i64; 3]
-    ensures { result ≡ turn q b c ∷ turn q c a ∷ turn q a b ∷ [] }
-{
-    [turn(q, b, c), turn(q, c, a), turn(q, a, b)]
 }

@@ -1,6 +1,6 @@
-//! Crossings: which triangle owns a position.
-ghost use Rattle.std.specs.Prelude.{◌≡◌, ◌≤◌, Decides, unsigned_abs};
-ghost use Rattle.plane.specs.Plane.{rises, falls, crossing, Owns};
+//! Crossings: on which side of an edge a position lies.
+ghost use Rattle.std.specs.Prelude.{◌≡◌, ◌≤◌, unsigned_abs};
+ghost use Rattle.plane.specs.Plane.{rises, falls, crossing};
 
 use crate::orientation::turn;
 use crate::position::Position;
@@ -19,7 +19,7 @@ fn falls(q: Position, a: Position, b: Position) -> bool
     b.v <= q.v && q.v < a.v && turn(a, b, q) < 0
 }
 
-// The crossing of the edge from a to b at q: 1, −1 or 0.
+// The crossing of the edge from a to b at q: 1, −1 or 0. A number and no enum, since an owner's three are summed.
 pub fn crossing(q: Position, a: Position, b: Position) -> i8
     ensures value { result ≡ crossing q a b }
     ensures bound { unsigned_abs result ≤ 1 }
@@ -31,11 +31,4 @@ pub fn crossing(q: Position, a: Position, b: Position) -> i8
     } else {
         0
     }
-}
-
-// Whether the triangle a, b, c owns q: its three crossings sum to 1.
-pub fn owns(a: Position, b: Position, c: Position, q: Position) -> bool
-    ensures { Decides result (Owns a b c q) }
-{
-    crossing(q, a, b) + crossing(q, b, c) + crossing(q, c, a) == 1
 }

@@ -23,6 +23,6 @@ impl Position {
     pub fn is_inside(self) -> bool
         ensures { Decides result (Within self) }
     {
-        0 < self.u && self.u < EDGE && 0 < self.v && self.v < EDGE
+        (1..EDGE).contains(&self.u) && (1..EDGE).contains(&self.v)
     }
 }

@@ -10,12 +10,6 @@ use crate::measure::{Measure, MeasureFault};
 use crate::position::Position;
 use crate::weighted::Weighted;
 
-fn within(low: i64, high: i64, z: i64) -> bool
-    ensures { result ≡ from_to low high z }
-{
-    low <= z && z <= high
-}
-
 // Whether C·C is less than A·B, for small numbers.
 fn dominates(a: i64, b: i64, c: i64) -> bool
     requires a { Size a 64 }
@@ -30,16 +24,7 @@ fn dominates(a: i64, b: i64, c: i64) -> bool
 fn is_lawful(a: i64, b: i64, c: i64) -> bool
     ensures { result ≡ keeps_rule a b c }
 {
-    if !within(1, 64, a) {
-        return false;
-    }
-    if !within(1, 64, b) {
-        return false;
-    }
-    if !within(-63, 63, c) {
-        return false;
-    }
-    dominates(a, b, c)
+    (1..=64).contains(&a) && (1..=64).contains(&b) && (-63..=63).contains(&c) && dominates(a, b, c)
 }
 
 impl Weighted {
@@ -48,9 +33,9 @@ impl Weighted {
         ensures holds { IfOk result (λ w. (w.a ≡ a) × (w.b ≡ b) × (w.c ≡ c)) }
         ensures refuses { refused measure_refusal result ≡ first (weighted_rows a b c) }
     {
-        let a = a as i64;
-        let b = b as i64;
-        let c = c as i64;
+        let a = i64::from(a);
+        let b = i64::from(b);
+        let c = i64::from(c);
         if !is_lawful(a, b, c) {
             return Err(MeasureFault::Weights);
         }
@@ -66,20 +51,19 @@ fn part(factor: i64, x: u16, y: u16) -> i64
     ensures value { result ≡ factor *ℤ pos (x * y) }
     ensures bound { Size result 1073741824 }
 {
-    product(factor, (x as u32 * y as u32) as i64)
+    product(factor, i64::from(u32::from(x) * u32::from(y)))
 }
 
-// The form A·u² + B·v² + 2C·u·v of small numbers, at a position of the plane.
-fn form_at(a: i64, b: i64, c: i64, p: Position) -> i64
-    requires a { Size a 64 }
-    requires b { Size b 64 }
-    requires c { Size c 64 }
-    requires housed { InPlane p }
-    ensures { result ≡ form a b c (pos p.u) (pos p.v) }
-{
-    let squares = sum(part(a, p.u, p.u), part(b, p.v, p.v));
-    let mixed = part(c, p.u, p.v);
-    sum(squares, sum(mixed, mixed))
+impl Weighted {
+    // The form A·u² + B·v² + 2C·u·v at a position of the plane.
+    fn form(&self, p: Position) -> i64
+        requires { InPlane p }
+        ensures { result ≡ form self.now.a self.now.b self.now.c (pos p.u) (pos p.v) }
+    {
+        let squares = sum(part(self.a, p.u, p.u), part(self.b, p.v, p.v));
+        let mixed = part(self.c, p.u, p.v);
+        sum(squares, sum(mixed, mixed))
+    }
 }
 
 impl Measure for Weighted {
@@ -90,10 +74,6 @@ impl Measure for Weighted {
     ghost supported = { λ m. weighted_supported (rule m.a m.b m.c m.rule) };
 
     fn height(&self, p: Position) -> i64 {
-        if p.in_plane() {
-            form_at(self.a, self.b, self.c, p)
-        } else {
-            0
-        }
+        if p.in_plane() { self.form(p) } else { 0 }
     }
 }

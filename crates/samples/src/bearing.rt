@@ -1,9 +1,10 @@
 //! A third kind of figure: one signed number. It shows that a kind is one `impl`, with no new proof about rows or blends.
 ghost use Rattle.figures.specs.Bytes.{signed_word};
 ghost use Rattle.figures.specs.Figures.{pair_range};
+ghost use Rattle.figures.specs.declared.head.Head.TheVariants.{Glyph};
 ghost use Rattle.std.proofs.Common.{rules};
 
-use figures::{Figure, Pair};
+use figures::{Figure, Head, Pair};
 
 // How far a glyph stands from its origin.
 #[derive(Clone, Copy, PartialEq, Eq, Debug)]
@@ -14,13 +15,13 @@ pub struct Bearing {
 impl Figure for Bearing {
     const BYTES: usize = 2;
 
-    const HEADINGS: usize = 1;
+    const HEAD: Head = Head::Glyph;
 
     type Blend = Bearing;
 
-    ghost bytes = { 2 };
+    ghost BYTES = { 2 };
 
-    ghost headings = { 1 };
+    ghost HEAD = { Glyph };
 
     ghost parts = { 1 };
 
@@ -36,21 +37,13 @@ impl Figure for Bearing {
 
     ghost narrow = { Prim.search rules };
 
-    fn size() -> usize {
-        Self::BYTES
-    }
-
-    fn heads() -> usize {
-        Self::HEADINGS
-    }
-
     fn unpack(packed: &[u8]) -> Bearing {
         let pair = Pair::unpack(packed);
         Bearing { value: pair.along }
     }
 
     fn part(&self, p: usize) -> i64 {
-        self.value as i64
+        i64::from(self.value)
     }
 
     fn blend_of(numbers: [i64; 2]) -> Bearing {

@@ -1,38 +1,34 @@
 //! Mixes and blends.
 use crate::bearing::Bearing;
+use crate::geometry::at;
 use figures::{Advance, BlendFault, Mix, Pair, blend};
-use plane::Position;
+use plane::Triangle;
 use std::test::Fail;
 
-fn advance(value: u16) -> Advance {
+pub(crate) fn advance(value: u16) -> Advance {
     Advance { value }
 }
 
-fn bearing(value: i16) -> Bearing {
+pub(crate) fn bearing(value: i16) -> Bearing {
     Bearing { value }
 }
 
-fn pair(along: i16, across: i16) -> Pair {
+pub(crate) fn pair(along: i16, across: i16) -> Pair {
     Pair { along, across }
 }
 
 // The mix at q of masters 0, 1 and 4 of a family of five, which stand at two corners and at (1024, 1024).
 fn owner_mix(u: u16, v: u16) -> Option<Mix> {
-    let a = Position { u: 0, v: 0 };
-    let b = Position { u: 4096, v: 0 };
-    let c = Position { u: 1024, v: 1024 };
-    Mix::of_owner(Position { u, v }, a, b, c, [0, 1, 4], 5)
-}
-
-fn found(mix: Option<Mix>) -> Result<Mix, Fail> {
-    match mix {
-        Some(mix) => Ok(mix),
-        None => Err(Fail::new("no owner")),
-    }
+    let triangle = Triangle {
+        a: at(0, 0),
+        b: at(4096, 0),
+        c: at(1024, 1024),
+    };
+    Mix::of_owner(at(u, v), triangle, [0, 1, 4], 5)
 }
 
 fn mix_at(u: u16, v: u16) -> Result<Mix, Fail> {
-    found(owner_mix(u, v))
+    Ok(owner_mix(u, v).ok_or("no owner")?)
 }
 
 #[test]
@@ -51,30 +47,12 @@ fn mixes(rt: HostRuntime) -> Result<(), Fail> {
 #[test]
 fn one_number(rt: HostRuntime) -> Result<(), Fail> {
     let mix = mix_at(2048, 512)?;
-    let row = [
-        advance(500),
-        advance(900),
-        advance(1000),
-        advance(600),
-        advance(701),
-    ];
+    let row = [500, 900, 1000, 600, 701].map(advance);
     assert_eq!(rt; blend(&row, &mix), Ok(advance(751)));
     assert_eq!(rt; blend(&row[0..4], &mix), Err(BlendFault::Figures));
-    let below = [
-        bearing(-500),
-        bearing(-900),
-        bearing(-1000),
-        bearing(-600),
-        bearing(-701),
-    ];
+    let below = [-500, -900, -1000, -600, -701].map(bearing);
     assert_eq!(rt; blend(&below, &mix), Ok(bearing(-750)));
-    let lower = [
-        bearing(-502),
-        bearing(-900),
-        bearing(-1000),
-        bearing(-600),
-        bearing(-701),
-    ];
+    let lower = [-502, -900, -1000, -600, -701].map(bearing);
     assert_eq!(rt; blend(&lower, &mix), Ok(bearing(-751)));
     assert_eq!(rt; blend(&[advance(65_535); 5], &mix), Ok(advance(65_535)));
     assert_eq!(rt; blend(&[advance(0); 5], &mix), Ok(advance(0)));
@@ -102,32 +80,27 @@ fn two_numbers(rt: HostRuntime) -> Result<(), Fail> {
 // The least total and the greatest.
 #[test]
 fn totals(rt: HostRuntime) -> Result<(), Fail> {
-    let o = Position { u: 0, v: 0 };
-    let tiny = Mix::of_owner(
-        o,
-        o,
-        Position { u: 1, v: 0 },
-        Position { u: 0, v: 1 },
-        [0, 1, 2],
-        3,
-    );
-    let b = Position { u: 4096, v: 0 };
-    let c = Position { u: 4096, v: 4096 };
-    let vast = Mix::of_owner(Position { u: 3000, v: 100 }, o, b, c, [0, 1, 2], 4);
-    let tiny = found(tiny)?;
-    let vast = found(vast)?;
+    let least = Triangle {
+        a: at(0, 0),
+        b: at(1, 0),
+        c: at(0, 1),
+    };
+    let greatest = Triangle {
+        a: at(0, 0),
+        b: at(4096, 0),
+        c: at(4096, 4096),
+    };
+    let tiny = Mix::of_owner(at(0, 0), least, [0, 1, 2], 3);
+    let vast = Mix::of_owner(at(3000, 100), greatest, [0, 1, 2], 4);
+    let tiny = tiny.ok_or("no owner")?;
+    let vast = vast.ok_or("no owner")?;
     assert_eq!(rt; tiny.total(), 1);
     assert_eq!(rt;
         blend(&[advance(65_535), advance(0), advance(0)], &tiny),
         Ok(advance(65_535))
     );
     assert_eq!(rt; vast.total(), 16_777_216);
-    let ends = [
-        bearing(-32_768),
-        bearing(32_767),
-        bearing(32_767),
-        bearing(0),
-    ];
+    let ends = [-32_768, 32_767, 32_767, 0].map(bearing);
     assert_eq!(rt; blend(&ends, &vast), Ok(bearing(15_231)));
     Ok(())
 }

@@ -1,11 +1,9 @@
 //! Turns, crossings, rings and measures.
 use crate::grained::Grained;
-use plane::{
-    Measure, MeasureFault, Optical, Position, Weighted, crossing, owns, ring, turn, weights,
-};
+use plane::{Measure, MeasureFault, Optical, Position, Triangle, Weighted, crossing, turn};
 use std::test::Fail;
 
-const fn at(u: u16, v: u16) -> Position {
+pub(crate) fn at(u: u16, v: u16) -> Position {
     Position { u, v }
 }
 
@@ -39,7 +37,8 @@ fn turns_and_weights(rt: HostRuntime) {
     assert_eq!(rt; turn(a, at(4096, 4096), b), -16_777_216);
     assert_eq!(rt; turn(a, c, at(4096, 4096)), 0);
     assert_eq!(rt; turn(a, at(65_535, 0), at(0, 65_535)), 4_294_836_225);
-    assert_eq!(rt; weights(q, a, b, c), [524_288, 1_572_864, 2_097_152]);
+    let triangle = Triangle { a, b, c };
+    assert_eq!(rt; triangle.weights(q), [524_288, 1_572_864, 2_097_152]);
 }
 
 // An edge counts its lower end and not its upper; a position on the edge is on neither side.
@@ -72,6 +71,9 @@ fn owners(rt: HostRuntime) {
     let b = at(4096, 0);
     let c = at(4096, 4096);
     let d = at(0, 4096);
+    let right = Triangle { a, b, c };
+    let left = Triangle { a, b: c, c: d };
+    let turned = Triangle { a: c, b, c: a };
     for q in [
         at(1, 1),
         at(2048, 2048),
@@ -79,10 +81,10 @@ fn owners(rt: HostRuntime) {
         at(3000, 100),
         at(100, 3000),
     ] {
-        assert_ne!(rt; owns(a, b, c, q), owns(a, c, d, q));
+        assert_ne!(rt; right.owns(q), left.owns(q));
     }
-    assert!(rt; owns(a, b, c, at(3000, 100)));
-    assert!(rt; !owns(c, b, a, at(3000, 100)));
+    assert!(rt; right.owns(at(3000, 100)));
+    assert!(rt; !turned.owns(at(3000, 100)));
 }
 
 #[test]
@@ -99,48 +101,43 @@ fn weighted_measures(rt: HostRuntime) -> Result<(), Fail> {
         (1, 1, -1),
         (2_147_483_647, 1, 0),
     ] {
-        match Weighted::new(a, b, c) {
-            Ok(_) => return Err(Fail::new("made against the rule")),
-            Err(fault) => assert_eq!(rt; fault, MeasureFault::Weights),
-        }
+        assert_eq!(rt; Weighted::new(a, b, c).err(), Some(MeasureFault::Weights));
     }
-    let Ok(slanted) = Weighted::new(2, 2, 1) else {
-        return Err(Fail::new("not made"));
-    };
+    let slanted = Weighted::new(2, 2, 1)?;
     assert_eq!(rt; slanted.height(at(3, 5)), 98);
     assert_eq!(rt; slanted.height(at(3, 4097)), 0);
     Ok(())
 }
 
+fn three_corners() -> Triangle {
+    Triangle {
+        a: at(0, 0),
+        b: at(4096, 0),
+        c: at(4096, 4096),
+    }
+}
+
 // The corners of the plane: the fourth stands on the ring of the other three, or off it, as the measure has it.
 fn corner_ring<M: Measure>(measure: &M) -> Option<i64> {
-    ring(measure, at(0, 0), at(4096, 0), at(4096, 4096), at(0, 4096))
+    three_corners().ring(measure, at(0, 4096))
 }
 
 #[test]
 fn rings(rt: HostRuntime) -> Result<(), Fail> {
-    let Ok(round) = Weighted::new(1, 1, 0) else {
-        return Err(Fail::new("not made"));
-    };
-    let Ok(slanted) = Weighted::new(2, 2, 1) else {
-        return Err(Fail::new("not made"));
-    };
+    let round = Weighted::new(1, 1, 0)?;
+    let slanted = Weighted::new(2, 2, 1)?;
     assert_eq!(rt; corner_ring(&round), Some(0));
     assert_eq!(rt; corner_ring(&Optical), Some(0));
     assert_eq!(rt; corner_ring(&Grained), Some(0));
     assert_eq!(rt; corner_ring(&slanted), Some(562_949_953_421_312));
     let middle = at(2048, 1024);
-    assert_eq!(rt;
-        ring(&round, at(0, 0), at(4096, 0), at(4096, 4096), middle),
-        Some(123_145_302_310_912)
-    );
-    assert_eq!(rt;
-        ring(&Grained, at(0, 0), at(4096, 0), at(4096, 4096), at(1, 1)),
-        Some(274_794_020_864)
-    );
-    assert_eq!(rt;
-        ring(&round, at(0, 0), at(4096, 0), at(4096, 4097), middle),
-        None
-    );
+    let inside = three_corners();
+    let outside = Triangle {
+        c: at(4096, 4097),
+        ..inside
+    };
+    assert_eq!(rt; inside.ring(&round, middle), Some(123_145_302_310_912));
+    assert_eq!(rt; inside.ring(&Grained, at(1, 1)), Some(274_794_020_864));
+    assert_eq!(rt; outside.ring(&round, middle), None);
     Ok(())
 }

@@ -11,10 +11,11 @@ pub struct Grained;
 fn square(x: u16) -> u32
     ensures { result ≡ x * x }
 {
-    x as u32 * x as u32
+    u32::from(x) * u32::from(x)
 }
 
 // 1 where both coordinates are odd, else 0.
+#[tactic(auto, unfolding(crate::specs::Grained::grain))]
 fn grain(p: Position) -> u16
     ensures value { result ≡ grain p }
     ensures bound { result ≤ 1 }
@@ -31,7 +32,7 @@ impl Measure for Grained {
 
     fn height(&self, p: Position) -> i64 {
         if p.in_plane() {
-            (2 * square(p.u) as u64 + 2 * square(p.v) as u64 + grain(p) as u64) as i64
+            2 * i64::from(square(p.u)) + 2 * i64::from(square(p.v)) + i64::from(grain(p))
         } else {
             0
         }

@@ -1,5 +1,5 @@
 //! Checking sheets, and reading what they hold.
-use plane::Position;
+use plane::{Fault, Position};
 use sheet::{RecordFault, Section, Sheet};
 use std::alloc::{AllocError, Global};
 use std::process::Abort;
@@ -9,74 +9,83 @@ use std::test::Fail;
 const SAMPLE: &[u8; 26] =
     b"FS\x00\x01\x00\x01\x00\x04\x00\x16\x00\x00\x00\x0c\x00\x1a\x00\x00\x00\x18\x00\x1a\x04\x00\x04\x00";
 
-// What a check answers: nothing, or the refusal's number and the section that it names.
+// How a sheet is refused: by a number, and some refusals name a section.
 #[derive(Clone, Copy, PartialEq, Eq, Debug)]
-enum Verdict {
-    Accepted,
-    Refused(u8),
-    Names(u8, u8),
+struct Refusal {
+    number: u8,
+    section: Option<u8>,
+}
+
+type Verdict = Result<(), Refusal>;
+
+fn refused(number: u8) -> Verdict {
+    Err(Refusal {
+        number,
+        section: None,
+    })
+}
+
+fn refused_at(number: u8, section: u8) -> Verdict {
+    Err(Refusal {
+        number,
+        section: Some(section),
+    })
 }
 
 fn checked(bytes: &[u8]) -> Verdict {
     let mut sheet = Sheet::fresh();
-    match sheet.check(bytes) {
-        Ok(()) => Verdict::Accepted,
-        Err(fault) => match fault.section() {
-            Some(section) => Verdict::Names(fault.number(), section),
-            None => Verdict::Refused(fault.number()),
-        },
-    }
+    sheet.check(bytes).map_err(|fault| Refusal {
+        number: fault.number(),
+        section: fault.section(),
+    })
 }
 
-// The sample with one byte changed.
-struct Change(usize, u8, Verdict);
-
-const CHANGES: [Change; 22] = [
-    // mark and version
-    Change(0, 83, Verdict::Refused(8)),
-    Change(1, 70, Verdict::Refused(8)),
-    Change(2, 1, Verdict::Refused(8)),
-    Change(3, 0, Verdict::Refused(8)),
-    Change(3, 2, Verdict::Refused(8)),
-    // the count of masters: the limit, then the row lengths that hang on it
-    Change(4, 1, Verdict::Refused(9)),
-    Change(5, 125, Verdict::Refused(9)),
-    Change(5, 124, Verdict::Names(10, 2)),
-    Change(5, 0, Verdict::Names(10, 2)),
-    // record lengths
-    Change(6, 1, Verdict::Names(10, 1)),
-    Change(7, 6, Verdict::Names(10, 1)),
-    Change(13, 10, Verdict::Names(10, 2)),
-    Change(18, 1, Verdict::Names(10, 3)),
-    Change(19, 26, Verdict::Names(10, 3)),
-    // offsets
-    Change(8, 1, Verdict::Names(11, 1)),
-    Change(9, 24, Verdict::Names(11, 1)),
-    Change(15, 22, Verdict::Names(11, 2)),
-    Change(20, 1, Verdict::Names(11, 3)),
-    Change(21, 22, Verdict::Names(11, 3)),
-    // a count that moves what follows
-    Change(11, 1, Verdict::Names(11, 3)),
-    Change(17, 1, Verdict::Names(11, 4)),
-    // the position of a record is nobody's business here
-    Change(22, 255, Verdict::Accepted),
-];
+// Places of the sample, another byte for each, and what a check then answers.
+fn changes() -> [(usize, u8, Verdict); 22] {
+    [
+        // mark and version
+        (0, 83, refused(8)),
+        (1, 70, refused(8)),
+        (2, 1, refused(8)),
+        (3, 0, refused(8)),
+        (3, 2, refused(8)),
+        // the count of masters: the limit, then the row lengths that hang on it
+        (4, 1, refused(9)),
+        (5, 125, refused(9)),
+        (5, 124, refused_at(10, 2)),
+        (5, 0, refused_at(10, 2)),
+        // record lengths
+        (6, 1, refused_at(10, 1)),
+        (7, 6, refused_at(10, 1)),
+        (13, 10, refused_at(10, 2)),
+        (18, 1, refused_at(10, 3)),
+        (19, 26, refused_at(10, 3)),
+        // offsets
+        (8, 1, refused_at(11, 1)),
+        (9, 24, refused_at(11, 1)),
+        (15, 22, refused_at(11, 2)),
+        (20, 1, refused_at(11, 3)),
+        (21, 22, refused_at(11, 3)),
+        // a count that moves what follows
+        (11, 1, refused_at(11, 3)),
+        (17, 1, refused_at(11, 4)),
+        // the position of a record is nobody's business here
+        (22, 255, Ok(())),
+    ]
+}
 
 #[test]
 fn one_byte_changed(rt: HostRuntime) {
-    assert_eq!(rt; checked(SAMPLE), Verdict::Accepted);
-    for change in &CHANGES {
+    assert_eq!(rt; checked(SAMPLE), Ok(()));
+    for (place, byte, verdict) in changes() {
         let mut bytes = *SAMPLE;
-        assert!(rt; change.0 < 26);
-        bytes[change.0] = change.1;
-        assert_eq!(rt; checked(&bytes), change.2);
+        *bytes.get_mut(place).expect(&rt, "a place of the sample") = byte;
+        assert_eq!(rt; checked(&bytes), verdict);
     }
 }
 
-fn put(bytes: &mut Vec<u8>, number: usize) -> Result<(), AllocError> {
-    let [high, low] = ((number % 65_536) as u16).to_be_bytes();
-    bytes.push(high)?;
-    bytes.push(low)?;
+fn put(bytes: &mut Vec<u8>, number: usize) -> Result<(), Fail> {
+    bytes.extend_from_slice(&u16::try_from(number)?.to_be_bytes())?;
     Ok(())
 }
 
@@ -86,16 +95,16 @@ fn put_section(
     count: u16,
     length: usize,
     place: usize,
-) -> Result<usize, AllocError> {
-    put(bytes, count as usize)?;
+) -> Result<usize, Fail> {
+    put(bytes, usize::from(count))?;
     put(bytes, length)?;
     put(bytes, place)?;
-    Ok(place.saturating_add(length.saturating_mul(count as usize)))
+    Ok(place.saturating_add(length.saturating_mul(usize::from(count))))
 }
 
 // A sheet with a true header, its records all 0.
-fn sheet_of(heap: Global, masters: u16, advances: u16, pairs: u16) -> Result<Vec<u8>, AllocError> {
-    let n = 4 + masters as usize;
+fn sheet_of(heap: Global, masters: u16, advances: u16, pairs: u16) -> Result<Vec<u8>, Fail> {
+    let n = 4 + usize::from(masters);
     let mut bytes = [70, 83, 0, 1].to_vec(heap)?;
     let place = put_section(&mut bytes, masters, 4, 22)?;
     let place = put_section(&mut bytes, advances, 2 + 2 * n, place)?;
@@ -113,27 +122,27 @@ fn sized(mut bytes: Vec<u8>, len: usize) -> Result<Vec<u8>, AllocError> {
 #[test]
 fn lengths_and_limits(rt: HostRuntime) -> Result<(), Fail> {
     let heap = rt.alloc();
-    assert_eq!(rt; checked(&[]), Verdict::Refused(7));
+    assert_eq!(rt; checked(&[]), refused(7));
     let fresh = sheet_of(heap, 0, 0, 0)?;
-    assert_eq!(rt; checked(&fresh), Verdict::Accepted);
-    assert_eq!(rt; checked(&sized(fresh, 21)?), Verdict::Refused(7));
+    assert_eq!(rt; checked(&fresh), Ok(()));
+    assert_eq!(rt; checked(&sized(fresh, 21)?), refused(7));
     assert_eq!(rt;
         checked(&sized(sheet_of(heap, 0, 0, 0)?, 23)?),
-        Verdict::Names(11, 4)
+        refused_at(11, 4)
     );
     assert_eq!(rt;
         checked(&sized(sheet_of(heap, 1, 0, 0)?, 25)?),
-        Verdict::Names(11, 4)
+        refused_at(11, 4)
     );
     // the longest sheet that the layout allows has 65,534 bytes, since every length is even
     let longest = sheet_of(heap, 1, 5459, 0)?;
     assert_eq!(rt; longest.len(), 65_534);
-    assert_eq!(rt; checked(&longest), Verdict::Accepted);
+    assert_eq!(rt; checked(&longest), Ok(()));
     let odd = sized(longest, 65_535)?;
-    assert_eq!(rt; checked(&odd), Verdict::Names(11, 4));
-    assert_eq!(rt; checked(&sized(odd, 65_536)?), Verdict::Refused(7));
-    assert_eq!(rt; checked(&sheet_of(heap, 124, 3, 2)?), Verdict::Accepted);
-    assert_eq!(rt; checked(&sheet_of(heap, 125, 3, 2)?), Verdict::Refused(9));
+    assert_eq!(rt; checked(&odd), refused_at(11, 4));
+    assert_eq!(rt; checked(&sized(odd, 65_536)?), refused(7));
+    assert_eq!(rt; checked(&sheet_of(heap, 124, 3, 2)?), Ok(()));
+    assert_eq!(rt; checked(&sheet_of(heap, 125, 3, 2)?), refused(9));
     Ok(())
 }
 
@@ -142,7 +151,7 @@ fn lengths_and_limits(rt: HostRuntime) -> Result<(), Fail> {
 fn a_field_inserted(rt: HostRuntime) {
     let bytes =
         b"FS\x00\x01\x00\x01\x00\x04\x00\x02\x00\x16\x00\x00\x00\x0c\x00\x1a\x00\x00\x00\x18\x00\x1a\x04\x00\x04\x00";
-    assert_eq!(rt; checked(bytes), Verdict::Names(10, 2));
+    assert_eq!(rt; checked(bytes), refused_at(10, 2));
 }
 
 // What a window counts and reads, and that a refusal leaves it.

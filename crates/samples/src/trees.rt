@@ -14,21 +14,15 @@ fn first_nodes<M: Measure>(
     second: ([u8; 3], [Option<u16>; 3]),
 ) -> Result<(), Fail> {
     let tables = Tables::fresh(measure);
-    let (Ok(a), Ok(b)) = (tables.node(0), tables.node(1)) else {
-        return Err(Fail::new("no node"));
-    };
+    let a = tables.node(0)?;
+    let b = tables.node(1)?;
     assert_eq!(rt; a.masters, first.0);
     assert_eq!(rt; a.neighbours, first.1);
     assert_eq!(rt; b.masters, second.0);
     assert_eq!(rt; b.neighbours, second.1);
     assert!(rt; a.killer.is_none() && b.father.is_none());
-    match tables.node(2) {
-        Ok(_) => Err(Fail::new("a third node")),
-        Err(fault) => {
-            assert_eq!(rt; fault, NodeFault::NoSuchNode);
-            Ok(())
-        },
-    }
+    assert_eq!(rt; tables.node(2).err(), Some(NodeFault::NoSuchNode));
+    Ok(())
 }
 
 #[test]
@@ -37,12 +31,8 @@ fn fresh_trees(rt: HostRuntime) -> Result<(), Fail> {
         ([0, 1, 2], [None, None, Some(1)]),
         ([0, 2, 3], [Some(0), None, None]),
     );
-    let Ok(round) = Weighted::new(1, 1, 0) else {
-        return Err(Fail::new("not made"));
-    };
-    let Ok(slanted) = Weighted::new(2, 2, 1) else {
-        return Err(Fail::new("not made"));
-    };
+    let round = Weighted::new(1, 1, 0)?;
+    let slanted = Weighted::new(2, 2, 1)?;
     first_nodes(&rt, &round, level.0, level.1)?;
     first_nodes(&rt, &Optical, level.0, level.1)?;
     first_nodes(&rt, &Grained, level.0, level.1)?;

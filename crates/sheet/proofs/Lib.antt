@@ -1,4 +1,3 @@
 pub mod Accepted
-pub mod Buffers
 pub mod RowPlaces
 pub mod Rows

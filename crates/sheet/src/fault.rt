@@ -4,8 +4,10 @@ ghost use Rattle.std.specs.Option.{option_to_list};
 ghost use Rattle.sheet.specs.Refusals.{sheet_refusal, record_refusal, row_refusal};
 
 use crate::section::Section;
+use plane::Fault;
 
-// A place that the layout fixes: where a section starts, or where the sheet ends.
+// A place that the layout fixes: where a section starts, or where the sheet ends. It is no Option<Section>, whose None
+// would not say "the sheet's end".
 #[derive(Clone, Copy, PartialEq, Eq, Debug)]
 pub enum Boundary {
     Start(Section),
@@ -43,11 +45,10 @@ pub enum RowFault {
     ShortBuffer,
 }
 
-impl SheetFault {
-    // The refusal's number.
-    pub fn number(self) -> u8
-        ensures { result ≡ (sheet_refusal self).number }
-    {
+impl Fault for SheetFault {
+    ghost refusal = { sheet_refusal };
+
+    fn number(self) -> u8 {
         match self {
             SheetFault::Size => 7,
             SheetFault::Mark => 8,
@@ -56,7 +57,30 @@ impl SheetFault {
             SheetFault::Offset(_) => 11,
         }
     }
+}
 
+impl Fault for RecordFault {
+    ghost refusal = { record_refusal };
+
+    fn number(self) -> u8 {
+        match self {
+            RecordFault::NoSuchRecord => 14,
+        }
+    }
+}
+
+impl Fault for RowFault {
+    ghost refusal = { row_refusal };
+
+    fn number(self) -> u8 {
+        match self {
+            RowFault::NoSuchRow => 14,
+            RowFault::ShortBuffer => 15,
+        }
+    }
+}
+
+impl SheetFault {
     // The section that the refusal names, 1 to 3, or 4 for the sheet's end.
     pub fn section(self) -> Option<u8>
         ensures { option_to_list result ≡ (sheet_refusal self).names }
@@ -66,29 +90,6 @@ impl SheetFault {
             SheetFault::RecordLength(section) => Some(section.number()),
             SheetFault::Offset(Boundary::Start(section)) => Some(section.number()),
             SheetFault::Offset(Boundary::End) => Some(4),
-        }
-    }
-}
-
-impl RecordFault {
-    // The refusal's number.
-    pub fn number(self) -> u8
-        ensures { result ≡ (record_refusal self).number }
-    {
-        match self {
-            RecordFault::NoSuchRecord => 14,
-        }
-    }
-}
-
-impl RowFault {
-    // The refusal's number.
-    pub fn number(self) -> u8
-        ensures { result ≡ (row_refusal self).number }
-    {
-        match self {
-            RowFault::NoSuchRow => 14,
-            RowFault::ShortBuffer => 15,
         }
     }
 }

@@ -3,9 +3,9 @@
 
 mod checking;
 mod fault;
+mod header;
 mod heading;
 mod methods;
-mod reading;
 mod section;
 mod taking;
 mod window;

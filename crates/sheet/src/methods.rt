@@ -1,14 +1,16 @@
 //! What a sheet answers.
-ghost use Rattle.std.specs.Prelude.{◌≡◌, is_ok, IfOk, Decides, MatchResult};
+ghost use Rattle.std.specs.Prelude.{◌≡◌, ◌<◌, is_ok, IfOk, Decides, MatchResult};
 ghost use Rattle.plane.specs.Refusal.{refused, first};
 ghost use Rattle.sheet.specs.Layout.{KeepsLayout, count, fresh_sheet, master_record};
+ghost use Rattle.sheet.specs.declared.section.Section.TheVariants.{Masters};
 ghost use Rattle.sheet.specs.Refusals.{sheet_refusal, sheet_refused, record_refusal, record_rows};
 
 use crate::checking::check_bytes;
 use crate::fault::{RecordFault, SheetFault};
-use crate::reading::{count_of, record_at};
+use crate::header::{HEADER, Header};
 use crate::section::Section;
 use crate::window::Sheet;
+use figures::word_at;
 use plane::Position;
 
 // A version 1 sheet without records.
@@ -39,11 +41,29 @@ impl<'a> Sheet<'a> {
         Ok(())
     }
 
+    // The header, which every accepted sheet has.
+    pub(crate) fn header(&self) -> Header<'a>
+        ensures { result.bytes.now ≡ self.now.bytes.now }
+    {
+        Header { bytes: self.bytes }
+    }
+
     // How many records a section has.
     pub fn count(&self, section: Section) -> usize
         ensures { result ≡ count self.now.bytes.now section }
     {
-        count_of(self.bytes, section)
+        usize::from(self.header().entry(section).count)
+    }
+
+    // The position in a master record that is there.
+    fn position(&self, k: usize) -> Position
+        requires { k < count self.now.bytes.now Masters }
+        ensures { result ≡ master_record self.now.bytes.now k }
+    {
+        let place = HEADER + 4 * k;
+        let u = word_at(self.bytes, place);
+        let v = word_at(self.bytes, place + 2);
+        Position { u, v }
     }
 
     // The position in master record k, as it stands in the bytes.
@@ -54,6 +74,6 @@ impl<'a> Sheet<'a> {
         if k >= self.count(Section::Masters) {
             return Err(RecordFault::NoSuchRecord);
         }
-        Ok(record_at(self.bytes, k))
+        Ok(self.position(k))
     }
 }

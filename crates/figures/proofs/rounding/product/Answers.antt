@@ -1,17 +1,16 @@
 -- A weight of at most 2^24 times a number below 2^16.
-use Rattle.std.proofs.Common.{◌≡◌, ℤ, pos, ◌*ℤ◌, sym, subst, arith, lit<, w64, to_z}
+use Rattle.std.proofs.Common.{◌≡◌, ℤ, pos, ◌*ℤ◌, sym, subst, arith, lit<}
 use Rattle.algebra.proofs.Signs.{abs_mul_le}
 use Rattle.plane.specs.Plane.{Size}
-use Rattle.plane.proofs.Fitting.{read, known, sized, widened}
+use Rattle.plane.proofs.Fitting.{read, known, sized}
 use Rattle.figures.proofs.Passing.{passed, fits}
 use Rattle.figures.proofs.rounding.product.Goals as goal
 
 -- the product of what is passed, and how large it is
-exact : (c : goal.Start)
-    → to_z w64 c.args.weight *ℤ passed c.args.number ≡ pos c.args.weight *ℤ c.args.number
-exact c i = widened {n = c.args.weight} (omega arith) i *ℤ read c.ranges.number i
+exact : (c : goal.After-from) → passed c.from.result *ℤ passed c.args.number ≡ pos c.args.weight *ℤ c.args.number
+exact c i = known c.from.type_inv c.from.ensures i *ℤ read c.ranges.number i
 
-small : (c : goal.Start) → Size (to_z w64 c.args.weight *ℤ passed c.args.number) 1099511627776
+small : (c : goal.After-from) → Size (passed c.from.result *ℤ passed c.args.number) 1099511627776
 small c =
     let s = abs_mul_le (pos c.args.weight) c.args.number c.requires.weight c.requires.number.size in
     subst (λ (z : ℤ). Size z 1099511627776) (sym (exact c)) (record { size = omega arith })

@@ -8,7 +8,7 @@ returns-then-beyond-nodes c n =
     let edge = c.args.edge.now in
     let nodes = c.args.nodes.now in
     let f = with_neighbour edge.from edge.to c.args.neighbour in
-    simp c.set_neighbour.ensures
+    simp (c.set_neighbour.ensures, c.from-beyond.ensures)
     (take_changed f n c.in-Some.beyond nodes no_node (omega arith)
     ∙ ap (λ (o : Option ℕ). changed_if f o (take n nodes)) (sym c.in-Some.is))
 

@@ -6,7 +6,7 @@ use Rattle.mesh.proofs.growing.give_son.Goals as goal
 pub returns-then-father-nodes : goal.returns-then-father-nodes
 returns-then-father-nodes c n =
     let edge = c.args.edge.now in
-    simp c.add_son.ensures
+    simp (c.add_son.ensures, c.from-father.ensures)
     (take_changed (with_son edge.side c.args.son) n edge.father c.args.nodes.now no_node (omega arith))
 
 pub returns-else-father-nodes : goal.returns-else-father-nodes

@@ -1,6 +1,6 @@
-use Rattle.std.proofs.Common.{◌≡◌, ℕ, ◌+◌, List, length, set, sym, ap, ◌∙◌, subst, arith}
+use Rattle.std.proofs.Common.{◌+◌, List, length, set, sym, ap, ◌∙◌, subst, arith}
 use Rattle.mesh.specs.declared.node.Node.{Node}
-use Rattle.mesh.proofs.Grows.{Marking, mark_killed, mark_spared, mark_all}
+use Rattle.mesh.proofs.Grows.{Marking, mark_killed, mark_spared}
 use Rattle.mesh.proofs.growing.mark.Goals as goal
 use Rattle.mesh.proofs.growing.mark.Goals.{then-killed, else-killed}
 
@@ -21,11 +21,3 @@ loop-i-preserved c =
           subst now (sym w.nodes-is)
           (mark_spared p doomed (length doomed) before ns i (omega arith) (omega arith) w.if-killed.false c.loop-i.invariant)
     ]
-
-pub returns : goal.returns
-returns c =
-    let doomed = c.args.doomed.now in
-    let all : c.loop-i.i ≡ length doomed = omega arith in
-    let now : ℕ → Type 0 = λ i. Marking c.args.killer doomed (length doomed) c.args.nodes.now c.loop-i.nodes i in
-    mark_all c.args.killer doomed (length doomed) c.args.nodes.now c.loop-i.nodes (omega arith)
-    (subst now all c.loop-i.invariant)

@@ -1,21 +1,14 @@
 -- Two coordinates of the plane have a product of at most 2^24.
-use Rattle.std.proofs.Common.{◌*◌, ◌≤◌, ◌*ℤ◌, ◌∙◌, mul-le-mul, arith, lit<}
-use Rattle.plane.proofs.Fitting.{read, known, sized, small_product, widened, widened_size}
+use Rattle.std.proofs.Common.{◌≤◌, mul-le-mul, arith}
+use Rattle.std.proofs.lemmas.Int.{ints}
+use Rattle.plane.proofs.Fitting.{sized}
 use Rattle.plane.proofs.weighing.part.Goals as goal
 
-pub product-requires : goal.product-requires
-product-requires c =
-    let most : c.args.x * c.args.y ≤ 4096 * 4096 = mul-le-mul c.requires.x c.requires.y in
-    small_product (sized c.ranges.factor.sfits c.requires.factor) (widened_size (omega arith) most) (lit< tt)
-
-pub returns : goal.returns
-returns c =
-    let most : c.args.x * c.args.y ≤ 4096 * 4096 = mul-le-mul c.requires.x c.requires.y in
-    record {
-      value =
-          known c.product.type_inv
-          (c.product.ensures.value ∙ (λ i. read c.ranges.factor i *ℤ widened {n = c.args.x * c.args.y} (omega arith) i));
-      bound =
-          sized c.product.type_inv
-          (c.product.ensures.bound _ _ (sized c.ranges.factor.sfits c.requires.factor) (widened_size (omega arith) most));
-    }
+pub returns-clause-bound : goal.returns-clause-bound
+returns-clause-bound c =
+    let x : c.from.result ≤ 4096 = omega arith in
+    let y : c.from-2.result ≤ 4096 = omega arith in
+    let most = mul-le-mul x y in
+    sized c.product.type_inv
+    (c.product.ensures.bound 64 16777216 (sized c.ranges.factor.sfits c.requires.factor)
+    (record { size = omega (arith, ints) }))

@@ -7,6 +7,6 @@ use Rattle.mesh.specs.Placing.{placed, tree}
 use Rattle.mesh.specs.Tree.{fresh, flat_diagonal}
 use Rattle.samples.proofs.derived.examples_derived.Goals as goal
 
-pub returns : goal.returns
+pub returns-clause-hold : goal.returns-clause-hold
 unfolding tree placed fresh flat_diagonal turn K only_in_plane
-returns c = record { count = refl; hold = refl }
+returns-clause-hold c = refl

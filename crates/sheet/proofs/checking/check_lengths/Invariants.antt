@@ -7,4 +7,4 @@ use Rattle.sheet.proofs.checking.check_lengths.Given as goal
 -- the rows of the sections passed do not apply
 abbrev pub invariant-loop-section : goal.invariant-loop-section
 invariant-loop-section l =
-    first (map (length_row l.bytes) sections) ≡ first (map (length_row l.bytes) (drop l.section-index sections))
+    first (map (length_row l.header.bytes.now) sections) ≡ first (map (length_row l.header.bytes.now) (drop l.section-index sections))

@@ -7,6 +7,6 @@ use Rattle.sheet.proofs.checking.check_offsets.Given as goal
 -- the rows of the sections passed do not apply, and the next is to start at `place`
 abbrev pub invariant-loop-section : goal.invariant-loop-section
 invariant-loop-section l =
-    (first (offset_rows l.bytes 22 sections)
-    ≡ first (offset_rows l.bytes l.place (drop l.section-index sections)))
+    (first (offset_rows l.header.bytes.now 22 sections)
+    ≡ first (offset_rows l.header.bytes.now l.place (drop l.section-index sections)))
     × (l.place ≤ 22 + l.section-index * 2 ^ 40)

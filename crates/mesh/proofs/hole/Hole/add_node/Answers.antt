@@ -1,16 +1,23 @@
-use Rattle.std.proofs.Common.{◌++◌, append_assoc, arith}
-use Rattle.mesh.specs.Placing.{side_edges}
+use Rattle.std.proofs.Common.{◌+◌, sym, subst, ◌∙◌}
+use Rattle.mesh.specs.declared.hole.Hole.{Hole}
+use Rattle.mesh.proofs.Holes.{Passing, with_side, without_side}
 use Rattle.mesh.proofs.hole.Hole.add_node.Goals as goal
+use Rattle.mesh.proofs.hole.Hole.add_node.Goals.{then-remains, else-remains}
 
-pub returns : goal.returns
-returns c =
-    record {
-      gathered =
-          λ es h.
-          let sides = side_edges c.args.doomed.now c.args.number c.args.node.now in
-          let one = c.add_side.ensures.gathered es h in
-          let two = c.add_side-2.ensures.gathered (es ++ sides 0) one in
-          let three = c.add_side-3.ensures.gathered ((es ++ sides 0) ++ sides 1) two in
-          simp append_assoc at three;
-      most = omega arith;
-    }
+pub loop-side-preserved : goal.loop-side-preserved
+loop-side-preserved c =
+    let doomed = c.args.doomed.now in
+    let before = c.args.self.now in
+    let now = c.loop-side.self in
+    let n = c.args.node.now in
+    let i = c.args.number in
+    let k = c.loop-side.side in
+    let after = λ (s : Hole). Passing before s doomed i n (k + 1) in
+    elim c.if-remains.branch [
+      | then-remains w ↦
+          subst after (sym w.self-is)
+          (with_side before now doomed i n k c.loop-side.invariant _ _ (sym c.remains.ensures ∙ w.if-remains.true) w.edge.ensures
+          w.add.ensures.gathered w.add.ensures.more)
+      | else-remains w ↦
+          subst after (sym w.self-is) (without_side before now doomed i n k c.loop-side.invariant (sym c.remains.ensures ∙ w.if-remains.false))
+    ]
