@@ -16,8 +16,7 @@ fn entry(k: u16) -> u32
     requires { k ≤ 4096 }
     ensures { result ≡ optic k }
 {
-    // not usize::from: the proof reads the table at the cast
-    TABLE[k as usize]
+    TABLE[usize::from(k)]
 }
 
 impl Measure for Optical {
