@@ -26,7 +26,7 @@ pub enum LoadFault {
     Record(RefusedRecord),
 }
 
-// A refused record by its number alone.
+// A refused record by its number alone, as placing the records knows it.
 #[derive(Clone, Copy)]
 pub(crate) struct BadRecord {
     pub(crate) number: u16,

@@ -32,7 +32,7 @@ pub trait Figure: Copy {
     fn unpack(packed: &[u8]) -> Self
         ensures { (p : ℕ) → number result p ≡ meant packed.now p };
 
-    // The number of part p.
+    // The number of part p: a place from 0 on, and so a number.
     fn part(&self, p: usize) -> i64
         ensures value { result ≡ number self.now p }
         ensures ranged { InRange range result };

@@ -2,7 +2,7 @@
 ghost use Rattle.std.specs.Prelude.{◌≡◌};
 ghost use Rattle.figures.specs.Figures.{glyphs};
 
-// The glyph numbers at the head of each row of a kind: that of one glyph, or those of a pair.
+// What heads the rows of a kind: one glyph's number, or a pair's two.
 #[derive(Clone, Copy, PartialEq, Eq, Debug)]
 pub enum Head {
     Glyph,

@@ -8,7 +8,7 @@ ghost use Rattle.figures.specs.Weights.{Share, sum};
 use crate::mix::Mix;
 use plane::{Position, Triangle};
 
-// Whether three masters are among those of a family.
+// Whether three masters are among those of a family of `count`. Both are a mix's fields once this is known.
 fn are_known(masters: [u8; 3], count: u8) -> bool
     ensures { Decides result ((i : ℕ) → i < 3 → slice_index masters i < count) }
 {

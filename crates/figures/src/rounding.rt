@@ -1,5 +1,5 @@
 //! The blend of three numbers.
-ghost use Rattle.std.specs.Prelude.{◌≡◌, ◌*◌, ◌<◌, ◌≤◌, get_or, pos, ◌+ℤ◌, ◌*ℤ◌, ◌<ℤ◌, slice_index, slice_index_or};
+ghost use Rattle.std.specs.Prelude.{◌≡◌, ◌*◌, ◌<◌, ◌≤◌, get_or, pos, ◌+ℤ◌, ◌*ℤ◌, ◌<ℤ◌};
 ghost use Rattle.std.specs.Int.{int_div_euclid};
 ghost use Rattle.plane.specs.Plane.{Size};
 ghost use Rattle.figures.specs.Blends.{Small, weighted_sum, blended_number};
@@ -24,23 +24,6 @@ fn floor_quotient(z: i64, divisor: i64) -> i64
     z.div_euclid(divisor)
 }
 
-// Twice the total.
-fn doubled(total: u32) -> i64
-    requires { total ≤ 16777216 }
-    ensures { result ≡ pos (2 * total) }
-{
-    2 * i64::from(total)
-}
-
-// Twice a sum, with the total added: divided by twice the total, it is the mean and a half.
-fn raised(sum: i64, total: u32) -> i64
-    requires sum { Size sum 4398046511104 }
-    requires most { total ≤ 16777216 }
-    ensures { result ≡ pos 2 *ℤ sum +ℤ pos total }
-{
-    2 * sum + i64::from(total)
-}
-
 impl Mix {
     // The sum of three numbers by their weights, below 2^42.
     fn weighted_sum(&self, numbers: [i64; 3]) -> i64
@@ -55,12 +38,27 @@ impl Mix {
         sum
     }
 
+    // Twice the total.
+    fn doubled(&self) -> i64
+        ensures { result ≡ pos (2 * self.now.total) }
+    {
+        2 * i64::from(self.total)
+    }
+
+    // Twice a sum, with the total added: divided by twice the total, it is the mean and a half.
+    fn raised(&self, sum: i64) -> i64
+        requires { Size sum 4398046511104 }
+        ensures { result ≡ pos 2 *ℤ sum +ℤ pos self.now.total }
+    {
+        2 * sum + i64::from(self.total)
+    }
+
     // The blend of three numbers, one for each master.
     pub(crate) fn blended(&self, numbers: [i64; 3]) -> i64
         requires { Small numbers }
         ensures { result ≡ blended_number self.now (λ i. get_or numbers i (pos 0)) }
     {
         let sum = self.weighted_sum(numbers);
-        floor_quotient(raised(sum, self.total), doubled(self.total))
+        floor_quotient(self.raised(sum), self.doubled())
     }
 }

@@ -4,15 +4,8 @@ ghost use Rattle.mesh.specs.Lists.{in_use};
 ghost use Rattle.mesh.specs.Tree.{flat_diagonal, first_nodes, fresh};
 
 use crate::node::Node;
-use crate::tables::{MOST_MASTERS, MOST_NODES, Tables};
+use crate::tables::{CORNERS, MOST_MASTERS, MOST_NODES, Tables};
 use plane::{Measure, Position};
-
-const CORNERS: [Position; 4] = [
-    Position { u: 0, v: 0 },
-    Position { u: 4096, v: 0 },
-    Position { u: 4096, v: 4096 },
-    Position { u: 0, v: 4096 },
-];
 
 // The heights at two positions together.
 fn together<M: Measure>(measure: &M, a: Position, b: Position) -> i64

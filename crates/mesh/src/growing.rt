@@ -1,7 +1,7 @@
 //! The nodes that a new master makes, one over each edge of the hole.
-ghost use Rattle.std.specs.Prelude.{◌≡◌, ℕ, ◌+◌, ◌<◌, ◌≤◌, [], ◌∷◌, ◌++◌, length, map, take, nat_eq};
+ghost use Rattle.std.specs.Prelude.{◌≡◌, ℕ, ◌+◌, ◌<◌, ◌≤◌, [], ◌∷◌, ◌++◌, length, map, take};
 ghost use Rattle.mesh.specs.Edges.{shown};
-ghost use Rattle.mesh.specs.Placing.{first_edge, with_son, with_neighbour, changed, changed_if, new_node, grown, marked};
+ghost use Rattle.mesh.specs.Placing.{with_son, with_neighbour, changed, changed_if, new_node, grown, marked};
 
 use crate::edge::Edge;
 use crate::node::Node;
@@ -31,7 +31,7 @@ impl Rim<'_> {
         )
     }
 
-    // A new node over each edge, behind those in use.
+    // A new node over each edge, behind those in use. Edges are counted, since a node's number is its place.
     pub(crate) fn grow(self, nodes: &mut [Node])
         requires { self.first + length self.edges.now ≤ length nodes.old }
         ensures { take (self.entry.first + length self.entry.edges.now) nodes.new
@@ -44,7 +44,7 @@ impl Rim<'_> {
     }
 }
 
-// A node becomes the son of its father.
+// A node becomes the son of its father. These three write the nodes, which an edge only names.
 fn give_son(nodes: &mut [Node], edge: &Edge, son: u16)
     ensures { (n : ℕ) → take n nodes.new
         ≡ changed (with_son edge.now.side son) edge.now.father (take n nodes.old) }

@@ -15,6 +15,7 @@ pub(crate) fn front<T>(table: &[T], n: usize) -> &[T]
     table.get(..n).unwrap_or(table)
 }
 
+// The bounds of both lists are said again where they are passed on, since a slice has no type that bounds it.
 impl Tables {
     // The positions of the masters, by number.
     pub fn masters(&self) -> &[Position]

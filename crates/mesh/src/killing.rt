@@ -47,7 +47,7 @@ impl<M: Measure> Newcomer<'_, M> {
         }
     }
 
-    // Of each node, whether it is killed; false past the nodes. A fixed array, since placing has no heap.
+    // Of each node, whether it is killed; false past the nodes. A fixed array, since placing has no heap and stands on std alone.
     pub(crate) fn doomed(&self, nodes: &[Node]) -> [bool; MOST_NODES]
         requires { length nodes.now ≤ 1024 }
         ensures all { take (length nodes.now) result

@@ -85,7 +85,7 @@ impl Tables {
         Ok(number)
     }
 
-    // Places p, the next master, and answers its number. A refusal changes nothing, as each call that can refuse says for itself.
+    // Places p, the next master, and answers its number. A refusal changes nothing.
     pub fn place<M: Measure>(&mut self, measure: &M, p: Position) -> Result<u8, PlaceFault>
         ensures refuses { refused place_refusal result ≡ first (place_rows (M.heights measure.now) (in_use self.old) p) }
         ensures places { IfOk result (λ n. Placed (M.heights measure.now) (in_use self.old) p n (in_use self.new)) }

@@ -9,8 +9,16 @@ pub(crate) const MOST_MASTERS: usize = 128;
 
 pub(crate) const MOST_NODES: usize = 1024;
 
-// All masters stand in the plane. What stands behind the counts is filler, which no view by an `impl Model` could give back, as `Copy`
-// needs. Fixed arrays with counts: a family has fixed memory and no heap.
+// The masters that every family has.
+pub(crate) const CORNERS: [Position; 4] = [
+    Position { u: 0, v: 0 },
+    Position { u: 4096, v: 0 },
+    Position { u: 4096, v: 4096 },
+    Position { u: 0, v: 4096 },
+];
+
+// All masters stand in the plane. What stands behind the counts is filler. Fixed arrays, since a family has no heap; and no vectors of fixed
+// room, nor an `impl Model`, since these are not `Copy`.
 #[derive(Clone, Copy)]
 pub struct Tables {
     pub(crate) positions: [Position; MOST_MASTERS],

@@ -4,16 +4,14 @@ ghost use Rattle.mesh.specs.Lists.{in_use};
 ghost use Rattle.mesh.specs.Placing.{stand, start};
 
 use crate::node::Node;
-use crate::tables::Tables;
+use crate::tables::{CORNERS, Tables};
 use plane::{Position, Triangle};
-
-const CORNER: Position = Position { u: 0, v: 0 };
 
 // The position of a master; corner 0 where there is no such master.
 fn stand_at(masters: &[Position], m: u8) -> Position
     ensures { result ≡ stand masters.now m }
 {
-    masters.get(usize::from(m)).copied().unwrap_or(CORNER)
+    masters.get(usize::from(m)).copied().unwrap_or(CORNERS[0])
 }
 
 // The triangle of the three masters of a node.

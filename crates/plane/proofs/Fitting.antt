@@ -1,7 +1,7 @@
 -- A signed result is passed on by its bits. These read it back: what it equals, and how large it is.
 use Rattle.std.proofs.Common.{◌≡◌, ℕ, ◌+◌, ◌*◌, ◌^◌, ◌<◌, ℤ, pos, negsuc, nat_abs, sym, ◌∙◌, subst, mul-le-mul, arith, w64, SFits, to_z, of_z}
 use lib.Signed.{mag}
-use Rattle.std.proofs.lemmas.Int.{to_z-of_z, to_z_pos}
+use Rattle.std.proofs.lemmas.Int.{to_z-of_z}
 use Rattle.plane.specs.Plane.{Position, InPlane, Size, Spans}
 
 pub read : {z : ℤ} → SFits w64 z → to_z w64 (of_z w64 z) ≡ z
@@ -21,10 +21,6 @@ small_sum h k l = omega arith
 
 pub spans : {q : Position} → InPlane q → Spans 4096 q
 spans i = record { u_most = i.u_in; v_most = i.v_in }
-
--- A natural number, widened to a signed one.
-pub widened : {n : ℕ} → n < 2 ^ 63 → to_z w64 n ≡ pos n
-widened {n} h = to_z_pos w64 n h
 
 pub fits_small : (z : ℤ) → Size z 64 → SFits w64 z
 fits_small (pos n) h = record { sfits = omega arith }

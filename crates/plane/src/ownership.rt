@@ -9,14 +9,14 @@ use crate::position::Position;
 fn rises(q: Position, a: Position, b: Position) -> bool
     ensures { result ≡ rises q a b }
 {
-    a.v <= q.v && q.v < b.v && turn(a, b, q) > 0
+    (a.v..b.v).contains(&q.v) && turn(a, b, q) > 0
 }
 
 // Whether the edge from a to b falls past q, with q on its right.
 fn falls(q: Position, a: Position, b: Position) -> bool
     ensures { result ≡ falls q a b }
 {
-    b.v <= q.v && q.v < a.v && turn(a, b, q) < 0
+    (b.v..a.v).contains(&q.v) && turn(a, b, q) < 0
 }
 
 // The crossing of the edge from a to b at q: 1, −1 or 0. A number and no enum, since an owner's three are summed.

@@ -27,7 +27,8 @@ impl Triangle {
         }
     }
 
-    // Whether its three positions and q lie in the plane.
+    // Whether its three positions and q lie in the plane. What may be asked only then says so itself: a type for the four would be made
+    // for one call.
     pub fn all_in_plane(self, q: Position) -> bool
         ensures { Decides result (AllInPlane self.a self.b self.c q) }
     {

@@ -2,7 +2,7 @@
 ghost use Rattle.std.specs.Prelude.{◌≡◌, ◌*◌, ◌≤◌, pos, ◌*ℤ◌, IfOk, int_lt};
 ghost use Rattle.plane.specs.Plane.{InPlane, Size};
 ghost use Rattle.plane.specs.Refusal.{refused, first};
-ghost use Rattle.plane.specs.Weighted.{from_to, keeps_rule, measure_refusal, weighted_rows, form, weighted_height};
+ghost use Rattle.plane.specs.Weighted.{keeps_rule, measure_refusal, weighted_rows, form, weighted_height};
 ghost use Rattle.plane.specs.WeightedHeights.{rule, weighted_bounded, weighted_supported};
 
 use crate::exact::{product, sum};

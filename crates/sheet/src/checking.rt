@@ -45,6 +45,7 @@ fn check_offsets(header: &Header) -> Result<(), SheetFault>
 fn check_rows(bytes: &[u8]) -> Result<(), SheetFault>
     ensures { refused sheet_refusal result ≡ first (rows bytes.now) }
 {
+    // not by contains of a range: the search for the rows' proof gives up over it
     if bytes.len() < HEADER || bytes.len() > LONGEST {
         return Err(SheetFault::Size);
     }

@@ -81,7 +81,7 @@ impl Fault for RowFault {
 }
 
 impl SheetFault {
-    // The section that the refusal names, 1 to 3, or 4 for the sheet's end.
+    // The section that the refusal names, 1 to 3, or 4 for the sheet's end: numbers, as the table of docs/refusals.md has them.
     pub fn section(self) -> Option<u8>
         ensures { option_to_list result ≡ (sheet_refusal self).names }
     {

@@ -55,7 +55,7 @@ impl<'a> Sheet<'a> {
         usize::from(self.header().entry(section).count)
     }
 
-    // The position in a master record that is there.
+    // The position in a master record that is there, as `record` has tested.
     fn position(&self, k: usize) -> Position
         requires { k < count self.now.bytes.now Masters }
         ensures { result ≡ master_record self.now.bytes.now k }

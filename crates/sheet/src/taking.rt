@@ -45,7 +45,7 @@ impl<'a> Sheet<'a> {
         self.header().masters()
     }
 
-    // Where row k of a section starts.
+    // Where row k of a section starts. That the row is there is tested once, in `row`.
     fn row_start(&self, section: Section, k: usize) -> usize
         requires { k < count self.now.bytes.now section }
         ensures value { result ≡ row_start self.now.bytes.now section k }

@@ -5,7 +5,7 @@ use Rattle.std.proofs.lemmas.Slice.Zip.{zip_turn, zip_end}
 use Rattle.plane.specs.Plane.{Size}
 use Rattle.plane.proofs.Fitting.{known, sized}
 use Rattle.figures.specs.declared.mix.Mix.{Mix}
-use Rattle.figures.proofs.Partial.{partial_three, sum_fits, summed_more}
+use Rattle.figures.proofs.Partial.{partial_three, summed_more}
 use Rattle.figures.proofs.Passing.{same_number}
 use Rattle.figures.proofs.mix.Mix.weighted_sum.Goals as goal
 
@@ -37,10 +37,6 @@ turn c =
     c.loop-weight.weight-iterator c.next.new.self c.next.result (cc) (cc) c.loop-weight.yielded_by
     (c.in-Some.weight, c.in-Some.number) c.in-Some.is c.next.ensures.steps in
     (omega arith, t.2 0, t.3 (pos 0))
-
-pub overflow_add-sum : goal.overflow_add-sum
-overflow_add-sum c =
-    sum_fits (turn c).0 c.loop-weight.invariant (sized c.product-sum.type_inv c.product-sum.ensures.bound)
 
 pub loop-weight-preserved : goal.loop-weight-preserved
 loop-weight-preserved c =
