@@ -38,7 +38,7 @@ pub fn blend<F: Figure>(figures: &[F], mix: &Mix) -> Result<F::Blend, BlendFault
     if figures.len() != usize::from(mix.count) {
         return Err(BlendFault::Figures);
     }
-    // the two parts that a kind can have: a chain over them is no plainer
+    // the two parts that a kind can have, in two calls: the proof over [0, 1].map(..) did not close
     let first = blended_part(figures, mix, 0);
     let second = blended_part(figures, mix, 1);
     Ok(F::blend_of([first, second]))

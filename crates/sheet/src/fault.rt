@@ -7,7 +7,7 @@ use crate::section::Section;
 use plane::Fault;
 
 // A place that the layout fixes: where a section starts, or where the sheet ends. It is no Option<Section>, whose None
-// would not say "the sheet's end".
+// would not say "the sheet's end", and no second case of SheetFault, since both are one refusal.
 #[derive(Clone, Copy, PartialEq, Eq, Debug)]
 pub enum Boundary {
     Start(Section),
