@@ -20,7 +20,7 @@ fn dominates(a: i64, b: i64, c: i64) -> bool
     product(c, c) < product(a, b)
 }
 
-// Whether three numbers keep the rule of a weighted measure.
+// Whether three numbers, which are no measure yet, keep the rule of a weighted one.
 fn is_lawful(a: i64, b: i64, c: i64) -> bool
     ensures { result ≡ keeps_rule a b c }
 {
