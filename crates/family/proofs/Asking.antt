@@ -21,6 +21,7 @@ use Rattle.family.specs.Mixes.{mixture, mix_at}
 use Rattle.family.specs.Outcomes.{question_outcome}
 use Rattle.family.specs.Refusals.{question_refusal}
 use Rattle.family.specs.declared.fault.QuestionFault.TheVariants.{NotInside}
+use Rattle.family.proofs.Making.{made_housed}
 
 -- The node that answers owns q.
 owns_at : {m : Mesh} {q : Position} {x : Mix} (a : AnsweredBy m q x) → OwnsAt m q a.number
@@ -56,7 +57,7 @@ module _ {h : Heights} (law : Supported h) {ps : List Position} {t : Tables} (g 
   answered {q} w none =
       let j = lawful.owned q w in
       let o = j.1.owner in
-      let housed = t.housed in
+      let housed = made_housed g in
       none j.0 o.is_live.used (record {
         lives = o.is_live.lives;
         mixable = record {

@@ -31,6 +31,34 @@ module _ {h : Heights} {ps : List Position} {t : Tables} (made_t : Made h ps t) 
   pub made_count : length (in_use t).masters ≡ 4 + length ps
   made_count = ap length made_masters ∙ length-append corners ps
 
+  -- All masters stand in the plane.
+  pub made_housed : Housed (in_use t).masters
+  made_housed = rw made_masters each
+    where
+      corner_in : (k : ℕ) → InPlane (get_or corners k (corner 0 0))
+      corner_in zero = record { u_in = omega arith; v_in = omega arith }
+      corner_in (suc zero) = record { u_in = omega arith; v_in = omega arith }
+      corner_in (suc (suc zero)) = record { u_in = omega arith; v_in = omega arith }
+      corner_in (suc (suc (suc zero))) = record { u_in = omega arith; v_in = omega arith }
+      corner_in (suc (suc (suc (suc k)))) = record { u_in = omega arith; v_in = omega arith }
+
+      within_in : {q : Position} → Within q → InPlane q
+      within_in w = omega arith
+
+      placed_in : (k : ℕ) → InPlane (get_or ps k (corner 0 0))
+      placed_in k = by (cases_lt k (length ps))
+        where
+          by : (k < length ps) ⊎ (length ps ≤ k) → InPlane (get_or ps k (corner 0 0))
+          by (inl l) = within_in (made_t.placeable.inside k l)
+          by (inr l) = rw (get_or_past ps k (corner 0 0) l) (corner_in 0)
+
+      each : Housed (corners ++ ps)
+      each zero = corner_in 0
+      each (suc zero) = corner_in 1
+      each (suc (suc zero)) = corner_in 2
+      each (suc (suc (suc zero))) = corner_in 3
+      each (suc (suc (suc (suc k)))) = placed_in k
+
 -- An accepted placing.
 module _ {h : Heights} {ps : List Position} {t : Tables} (made_t : Made h ps t) (p : Position)
     (accepted : place_refused h ps p ≡ None) where
@@ -53,26 +81,26 @@ module _ {h : Heights} {ps : List Position} {t : Tables} (made_t : Made h ps t) 
 -- Placing is a step. Its answer speaks of the lists in use, and what it refuses leaves the tables.
 module _ (h : Heights) (t : Tables) (p : Position) (t' : Tables) where
   pub placing_steps : (r : Result ℕ PlaceFault) →
-      refused place_refusal r ≡ first (place_rows h (in_use t) p) → IfOk r (λ n. Placed h (in_use t) p n (in_use t')) →
-      (is_ok r ≡ false → t' ≡ t) →
+      (Housed (in_use t).masters → refused place_refusal r ≡ first (place_rows h (in_use t) p)) →
+      IfOk r (λ n. Housed (in_use t).masters → Placed h (in_use t) p n (in_use t')) → (is_ok r ≡ false → t' ≡ t) →
       Stepped h t (call.place p) (place_outcome r) t'
   placing_steps (Ok n) refuses places keeps = record { replied = replied; kept = kept }
     where
       accepted : (ps : List Position) → Made h ps t → place_refused h ps p ≡ None
-      accepted ps g = sym (refuses ∙ ap (λ m. first (place_rows h m p)) g.tree_is)
+      accepted ps g = sym (refuses (made_housed g) ∙ ap (λ m. first (place_rows h m p)) g.tree_is)
 
       replied : (ps : List Position) → Made h ps t → Replies h ps (call.place p) (call.placed n)
       replied ps g =
-          let number = places.number ∙ made_count g in
+          let number = (places (made_housed g)).number ∙ made_count g in
           rw (accepted ps g) (ap call.placed number)
 
       kept : (ps : List Position) → Made h ps t → Made h (ps ++ p ∷ []) t'
-      kept ps g = made_placed g p (accepted ps g) t' places.tree
+      kept ps g = made_placed g p (accepted ps g) t' (places (made_housed g)).tree
   placing_steps (Err e) refuses places keeps = record { replied = replied; kept = kept }
     where
       replied : (ps : List Position) → Made h ps t → Replies h ps (call.place p) (call.refused (place_refusal e))
       replied ps g =
-          let why = refuses ∙ ap (λ m. first (place_rows h m p)) g.tree_is in
+          let why = refuses (made_housed g) ∙ ap (λ m. first (place_rows h m p)) g.tree_is in
           rw (← why) refl
 
       kept : (ps : List Position) → Made h ps t → Made h (ps ++ []) t'

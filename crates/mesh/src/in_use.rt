@@ -1,7 +1,6 @@
 //! The tables without their filler.
 ghost use Rattle.std.specs.Prelude.{◌≡◌, ◌≤◌, length, take};
 ghost use Rattle.mesh.specs.Lists.{in_use};
-ghost use Rattle.mesh.specs.Placing.{Housed};
 
 use crate::node::Node;
 use crate::tables::Tables;
@@ -21,7 +20,6 @@ impl Tables {
     pub fn masters(&self) -> &[Position]
         ensures value { result.now ≡ (in_use self.now).masters }
         ensures most { length result.now ≤ 128 }
-        ensures housed { Housed result.now }
     {
         front(&self.positions, self.count)
     }

@@ -8,20 +8,21 @@ use crate::tables::MOST_NODES;
 use crate::vertices::vertices_of;
 use plane::{Measure, Position};
 
-// A new master at p, beside the masters that stand already, all in the plane.
+// A new master at p, in the plane, beside the masters that stand already. That these stand in the plane is a premise of each clause, since
+// the tables are plain.
 #[derive(Drop)]
 pub(crate) struct Newcomer<'a, M> {
     pub(crate) measure: &'a M,
     pub(crate) masters: &'a [Position],
     pub(crate) p: Position,
-    ghost housed: { Housed masters.now },
     ghost inside: { InPlane p },
 }
 
 impl<M: Measure> Newcomer<'_, M> {
     // Whether the ring of a node holds it.
     fn is_held(&self, node: &Node) -> bool
-        ensures { result ≡ holds (M.heights self.now.measure.now) self.now.masters.now self.now.p node.now }
+        ensures { Housed self.now.masters.now
+            → result ≡ holds (M.heights self.now.measure.now) self.now.masters.now self.now.p node.now }
     {
         vertices_of(self.masters, node)
             .ring(self.measure, self.p)
@@ -30,15 +31,18 @@ impl<M: Measure> Newcomer<'_, M> {
 
     // Whether it kills a node, which is live and whose ring holds it.
     fn kills(&self, node: &Node) -> bool
-        ensures { result ≡ kills (M.heights self.now.measure.now) self.now.masters.now self.now.p node.now }
+        ensures { Housed self.now.masters.now
+            → result ≡ kills (M.heights self.now.measure.now) self.now.masters.now self.now.p node.now }
     {
         node.killer.is_none() && self.is_held(node)
     }
 
     // Whether it kills the node of a number, where there is one.
     fn kills_at(&self, nodes: &[Node], number: usize) -> bool
-        ensures { result ≡ slice_index_or (map (kills (M.heights self.now.measure.now) self.now.masters.now self.now.p)
-            nodes.now) number false }
+        ensures killed { Housed self.now.masters.now → number < length nodes.now
+            → result ≡ kills (M.heights self.now.measure.now) self.now.masters.now self.now.p
+            (slice_index_or nodes.now number no_node) }
+        ensures others { length nodes.now ≤ number → result ≡ false }
     {
         // by match: the proof over is_some_and did not close, since its closure hides the fields of self
         match nodes.get(number) {
@@ -50,9 +54,9 @@ impl<M: Measure> Newcomer<'_, M> {
     // Of each node, whether it is killed; false past the nodes. A fixed array, since placing has no heap and stands on std alone.
     pub(crate) fn doomed(&self, nodes: &[Node]) -> [bool; MOST_NODES]
         requires { length nodes.now ≤ 1024 }
-        ensures all { take (length nodes.now) result
+        ensures all { Housed self.now.masters.now → take (length nodes.now) result
             ≡ map (kills (M.heights self.now.measure.now) self.now.masters.now self.now.p) nodes.now }
-        ensures killed { (i : ℕ) → i < length nodes.now → slice_index_or result i false
+        ensures killed { Housed self.now.masters.now → (i : ℕ) → i < length nodes.now → slice_index_or result i false
             ≡ kills (M.heights self.now.measure.now) self.now.masters.now self.now.p (slice_index_or nodes.now i no_node) }
         ensures others { (i : ℕ) → length nodes.now ≤ i → slice_index_or result i false ≡ false }
     {

@@ -6,6 +6,7 @@ ghost use Rattle.mesh.specs.Refusals.{master_at, master_rows, nodes_row, place_r
 ghost use Rattle.mesh.specs.Search.{first_at};
 ghost use Rattle.mesh.specs.Opened.{Opened, Placed};
 ghost use Rattle.plane.specs.Plane.{InPlane};
+ghost use Rattle.mesh.specs.Placing.{Housed};
 
 use crate::fault::PlaceFault;
 use crate::growing::{Rim, mark};
@@ -87,8 +88,10 @@ impl Tables {
 
     // Places p, the next master, and answers its number. A refusal changes nothing.
     pub fn place<M: Measure>(&mut self, measure: &M, p: Position) -> Result<u8, PlaceFault>
-        ensures refuses { refused place_refusal result ≡ first (place_rows (M.heights measure.now) (in_use self.old) p) }
-        ensures places { IfOk result (λ n. Placed (M.heights measure.now) (in_use self.old) p n (in_use self.new)) }
+        ensures refuses { Housed (in_use self.old).masters
+            → refused place_refusal result ≡ first (place_rows (M.heights measure.now) (in_use self.old) p) }
+        ensures places { IfOk result (λ n. Housed (in_use self.old).masters
+            → Placed (M.heights measure.now) (in_use self.old) p n (in_use self.new)) }
         ensures keeps { is_ok result ≡ false → self.new ≡ self.old }
     {
         let admitted = admit(self.masters(), p)?;

@@ -1,7 +1,4 @@
 //! The tables of a family: its masters' positions and its nodes, in fixed arrays.
-ghost use Rattle.std.specs.Prelude.{take};
-ghost use Rattle.mesh.specs.Placing.{Housed};
-
 use crate::node::Node;
 use plane::Position;
 
@@ -17,13 +14,12 @@ pub(crate) const CORNERS: [Position; 4] = [
     Position { u: 0, v: 4096 },
 ];
 
-// All masters stand in the plane. What stands behind the counts is filler. Fixed arrays, since a family has no heap; and no vectors of fixed
-// room, nor an `impl Model`, since these are not `Copy`.
+// Plain tables without an invariant, so that each entry can be changed by itself. What stands behind the counts is filler. Fixed arrays, since
+// a family has no heap; and no vectors of fixed room, nor an `impl Model`, since these are not `Copy`.
 #[derive(Clone, Copy)]
 pub struct Tables {
     pub(crate) positions: [Position; MOST_MASTERS],
     pub(crate) count: usize,
     pub(crate) nodes: [Node; MOST_NODES],
     pub(crate) used: usize,
-    ghost housed: { Housed (take count positions) },
 }
