@@ -1,12 +1,14 @@
 -- Tables that hold a family: fresh ones do, and placing is a step.
-use Rattle.std.proofs.Common.{◌≡◌, ℕ, ◌+◌, ◌<◌, false, List, [], ◌∷◌, ◌++◌, length, get_or, is_ok, IfOk, None, Ok, Err, Result, sym, refl, ap, ◌∙◌, arith}
-use Rattle.std.proofs.lemmas.List.{append-nil, length-append, get_or-append-add}
+use Rattle.std.proofs.Common.{◌≡◌, ℕ, zero, suc, ◌+◌, ◌<◌, ◌≤◌, false, ◌⊎◌, List, [], ◌∷◌, ◌++◌, length, get_or, is_ok, IfOk, None, Ok, Err, Result, sym, refl, ap, ◌∙◌, inl, inr, arith}
+use Rattle.std.proofs.lemmas.List.{append-nil, length-append, get_or-append-add, get_or_past}
+use Rattle.std.proofs.lemmas.Bool.{cases_lt}
 use Rattle.plane.specs.declared.position.Position.{Position}
 use Rattle.plane.specs.Measures.{Heights}
+use Rattle.plane.specs.Plane.{InPlane, Within}
 use Rattle.plane.specs.Refusal.{first, refused}
 use Rattle.mesh.specs.Lists.{in_use}
 use Rattle.mesh.specs.Opened.{Placed}
-use Rattle.mesh.specs.Placing.{placed, tree}
+use Rattle.mesh.specs.Placing.{Housed, placed, tree}
 use Rattle.mesh.specs.Refusals.{place_refusal, place_rows}
 use Rattle.mesh.specs.Tree.{corner, corners, fresh}
 use Rattle.mesh.specs.declared.fault.PlaceFault.{PlaceFault}
