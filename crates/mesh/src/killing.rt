@@ -8,8 +8,8 @@ use crate::tables::MOST_NODES;
 use crate::vertices::vertices_of;
 use plane::{Measure, Position};
 
-// A new master at p, in the plane, beside the masters that stand already. That these stand in the plane is a premise of each clause, since
-// the tables are plain.
+// A new master at p, in the plane, beside the masters that stand already. Where a clause says what is killed, that these stand in the
+// plane is its premise, since the tables are plain.
 #[derive(Drop)]
 pub(crate) struct Newcomer<'a, M> {
     pub(crate) measure: &'a M,
