@@ -32,8 +32,8 @@ impl Mix {
         ensures bound { Size result 4398046511104 }
     {
         let mut sum = 0;
-        for (weight, number) in self.weights.iter().zip(&numbers) {
-            sum += product(*weight, *number);
+        for (i, weight) in self.weights.iter().enumerate() {
+            sum += product(*weight, numbers[i]);
         }
         sum
     }

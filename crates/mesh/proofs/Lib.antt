@@ -1,6 +1,5 @@
 mod Admitted
 mod Changes
-mod Fronts
 mod Grows
 mod Holes
 mod Made

@@ -44,10 +44,13 @@ impl Tables {
         ensures { in_use result ≡ fresh (M.heights measure.now) }
     {
         let pair = first_pair(measure);
+        // by index: an array that is lent whole, as to copy_from_slice, is made on the stack and then copied into the tables
         let mut positions = [CORNERS[0]; MOST_MASTERS];
-        positions[..4].copy_from_slice(&CORNERS);
+        positions[1] = CORNERS[1];
+        positions[2] = CORNERS[2];
+        positions[3] = CORNERS[3];
         let mut nodes = [pair[0]; MOST_NODES];
-        nodes[..2].copy_from_slice(&pair);
+        nodes[1] = pair[1];
         Tables {
             positions,
             count: 4,

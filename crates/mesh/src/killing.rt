@@ -37,20 +37,6 @@ impl<M: Measure> Newcomer<'_, M> {
         node.killer.is_none() && self.is_held(node)
     }
 
-    // Whether it kills the node of a number, where there is one.
-    fn kills_at(&self, nodes: &[Node], number: usize) -> bool
-        ensures killed { Housed self.now.masters.now → number < length nodes.now
-            → result ≡ kills (M.heights self.now.measure.now) self.now.masters.now self.now.p
-            (slice_index_or nodes.now number no_node) }
-        ensures others { length nodes.now ≤ number → result ≡ false }
-    {
-        // by match: the proof over is_some_and did not close, since its closure hides the fields of self
-        match nodes.get(number) {
-            Some(node) => self.kills(node),
-            None => false,
-        }
-    }
-
     // Of each node, whether it is killed; false past the nodes. A fixed array, since placing has no heap and stands on std alone.
     pub(crate) fn doomed(&self, nodes: &[Node]) -> [bool; MOST_NODES]
         requires { length nodes.now ≤ 1024 }
@@ -60,6 +46,11 @@ impl<M: Measure> Newcomer<'_, M> {
             ≡ kills (M.heights self.now.measure.now) self.now.masters.now self.now.p (slice_index_or nodes.now i no_node) }
         ensures others { (i : ℕ) → length nodes.now ≤ i → slice_index_or result i false ≡ false }
     {
-        std::array::from_fn(|i| self.kills_at(nodes, i))
+        // over the nodes in use: array::from_fn would ask each place of the array
+        let mut killed = [false; MOST_NODES];
+        for (i, node) in nodes.iter().enumerate() {
+            killed[i] = self.kills(node);
+        }
+        killed
     }
 }

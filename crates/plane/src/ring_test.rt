@@ -45,7 +45,8 @@ impl Triangle {
     }
 
     // K of q in its ring, where all four positions lie in the plane: positive inside the ring, 0 on it. Every measure's rings
-    // hold what their masters turn left around.
+    // hold what their masters turn left around. Inline, since a call would pass the triangle through memory.
+    #[inline(always)]
     pub fn ring<M: Measure>(self, measure: &M, q: Position) -> Option<i64>
         ensures value { MatchOption result (AllInPlane self.a self.b self.c q → ⊥)
             (λ k. AllInPlane self.a self.b self.c q × (k ≡ K (M.heights measure.now) self.a self.b self.c q)) }

@@ -43,7 +43,8 @@ impl Triangle {
         [turn(q, b, c), turn(q, c, a), turn(q, a, b)]
     }
 
-    // Whether it owns q: its three crossings sum to 1.
+    // Whether it owns q: its three crossings sum to 1. Inline, since a call would pass the triangle through memory.
+    #[inline(always)]
     pub fn owns(self, q: Position) -> bool
         ensures { Decides result (Owns self.a self.b self.c q) }
     {

@@ -1,5 +1,5 @@
 -- A sheet is accepted exactly when no row of checking applies.
-use Rattle.std.proofs.Common.{◌≡◌, ℕ, false, List, is_some, is_ok, IfOk, None, Ok, Err, Decides, Result, sym, refl, arith}
+use Rattle.std.proofs.Common.{◌≡◌, ℕ, ◌+◌, ◌*◌, ◌<◌, ◌≤◌, length, false, List, is_some, is_ok, IfOk, None, Ok, Err, Decides, Result, sym, refl, arith}
 use mathlib.Core.Logic.{∥∥₁_elim}
 use mathlib.Core.Bool.{Bool-set}
 use Rattle.std.proofs.lemmas.Bool.Decides.{nat_tests}
@@ -7,7 +7,7 @@ use Rattle.plane.specs.Refusal.{refused, first}
 use Rattle.sheet.specs.declared.fault.SheetFault.{SheetFault}
 use Rattle.sheet.specs.declared.section.Section.{Section}
 use Rattle.sheet.specs.declared.section.Section.TheVariants.{Masters, Advances, Pairs}
-use Rattle.sheet.specs.Layout.{KeepsLayout, stated_length, record_length}
+use Rattle.sheet.specs.Layout.{KeepsLayout, count, stated_length, record_length}
 use Rattle.sheet.specs.Refusals.{rows, sheet_refused, sheet_refusal}
 
 pub sheet_refused_is : (bytes : List ℕ) → sheet_refused bytes ≡ first (rows bytes)
@@ -61,3 +61,7 @@ kept bytes held =
     ∥∥₁_elim held (Bool-set _ _) (λ k. let none = unrefused_keeps bytes k in grind arith)
     in
     keeps_unrefused bytes (grind arith)
+
+-- A master record that the count covers lies within the bytes.
+pub record_within : (bytes : List ℕ) (k : ℕ) → KeepsLayout bytes → k < count bytes Masters → 22 + 4 * k + 4 ≤ length bytes
+record_within bytes k keeps below = omega arith

@@ -5,7 +5,6 @@ ghost use Rattle.sheet.specs.Layout.{entry, count, masters, stated_length, state
 ghost use Rattle.sheet.specs.Refusals.{differs};
 
 use crate::section::Section;
-use figures::word_at;
 
 pub(crate) const HEADER: usize = 22;
 
@@ -17,10 +16,19 @@ pub(crate) struct Entry {
     pub(crate) offset: u16,
 }
 
-// The header of some bytes.
+// The header of some bytes, which are long enough to have one.
 #[derive(Clone, Copy)]
 pub(crate) struct Header<'a> {
     pub(crate) bytes: &'a [u8],
+    ghost whole: { 22 ≤ length bytes.now },
+}
+
+// The number in the two bytes from a place on that are there, the high byte first: unlike `figures::word_at`, it tests nothing.
+pub(crate) fn number_at(bytes: &[u8], place: usize) -> u16
+    requires { place + 1 < length bytes.now }
+    ensures { result ≡ word bytes.now place }
+{
+    u16::from_be_bytes([bytes[place], bytes[place + 1]])
 }
 
 // Where the header speaks of a section.
@@ -41,7 +49,7 @@ impl<'a> Header<'a> {
             result ≡ not (differs (slice_index bytes 0) 70 || differs (slice_index bytes 1) 83
             || differs (word bytes 2) 1) }
     {
-        self.bytes.starts_with(b"FS") && word_at(self.bytes, 2) == 1
+        matches!(self.bytes, [b'F', b'S', ..]) && number_at(self.bytes, 2) == 1
     }
 
     // What it states of a section.
@@ -52,9 +60,9 @@ impl<'a> Header<'a> {
     {
         let place = place_of(section);
         Entry {
-            count: word_at(self.bytes, place),
-            length: word_at(self.bytes, place + 2),
-            offset: word_at(self.bytes, place + 4),
+            count: number_at(self.bytes, place),
+            length: number_at(self.bytes, place + 2),
+            offset: number_at(self.bytes, place + 4),
         }
     }
 

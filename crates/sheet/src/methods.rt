@@ -7,10 +7,9 @@ ghost use Rattle.sheet.specs.Refusals.{sheet_refusal, sheet_refused, record_refu
 
 use crate::checking::check_bytes;
 use crate::fault::{RecordFault, SheetFault};
-use crate::header::{HEADER, Header};
+use crate::header::{HEADER, Header, number_at};
 use crate::section::Section;
 use crate::window::Sheet;
-use figures::word_at;
 use plane::Position;
 
 // A version 1 sheet without records.
@@ -61,8 +60,8 @@ impl<'a> Sheet<'a> {
         ensures { result ≡ master_record self.now.bytes.now k }
     {
         let place = HEADER + 4 * k;
-        let u = word_at(self.bytes, place);
-        let v = word_at(self.bytes, place + 2);
+        let u = number_at(self.bytes, place);
+        let v = number_at(self.bytes, place + 2);
         Position { u, v }
     }
 

@@ -7,20 +7,21 @@ ghost use Rattle.sheet.specs.Refusals.{row_refusal, taking_rows};
 ghost use Rattle.sheet.specs.Rows.{section_of, row_start, heading_at, row_heading, Taken, RowTaken};
 
 use crate::fault::RowFault;
+use crate::header::number_at;
 use crate::heading::Heading;
 use crate::section::Section;
 use crate::window::Sheet;
-use figures::{Figure, Head, word_at};
+use figures::{Figure, Head};
 
 // The glyph numbers at the head of a row.
 fn heading_at(bytes: &[u8], head: Head, start: usize) -> Heading
     requires { start + 2 * glyphs head ≤ length bytes.now }
     ensures { result ≡ heading_at bytes.now head start }
 {
-    let first = word_at(bytes, start);
+    let first = number_at(bytes, start);
     match head {
         Head::Glyph => Heading::Glyph(first),
-        Head::Pair => Heading::Pair(first, word_at(bytes, start + 2)),
+        Head::Pair => Heading::Pair(first, number_at(bytes, start + 2)),
     }
 }
 

@@ -1,8 +1,6 @@
-use Rattle.std.proofs.Common.{◌≡◌, ℕ, ◌<◌, get_or, Option, subst, arith}
+use Rattle.std.proofs.Common.{◌≡◌, ℕ, ◌<◌, get_or, Some, subst, arith, rules}
 use Rattle.std.proofs.lemmas.List.{get_or-take, length-take}
-use Rattle.family.specs.declared.call.Call.{Call}
 use Rattle.family.specs.declared.call.Call.TheVariants.{Release}
-use Rattle.family.specs.Outcomes.{CallAnswer}
 use Rattle.family.specs.Performing.{Answered}
 use Rattle.family.specs.Standing.{deed_of}
 use Rattle.family.proofs.Runnings.{Running, running_more, ran_all}
@@ -12,9 +10,9 @@ pub loop-n-preserved : goal.loop-n-preserved
 loop-n-preserved g c =
     let limit = c.min-limit.result in
     let early : c.loop-n.n < limit = omega (arith, length-take limit c.args.calls.now) in
-    let done = λ (call : Call) (o : Option CallAnswer). Answered g.M.Measure.heights c.loop-n.family (deed_of call) o c.perform-next.result.0 in
-    let asked = subst (λ (call : Call). done call c.perform-next.result.1) (get_or-take limit c.args.calls.now c.loop-n.n Release early) c.perform-next.ensures.answers in
-    let performed = subst (done (get_or c.args.calls.now c.loop-n.n Release)) c.in-Some.is asked in
+    let call = get_or c.args.calls.now c.loop-n.n Release in
+    let here = get_or-take limit c.args.calls.now c.loop-n.n Release early in
+    let performed : Answered g.M.Measure.heights c.loop-n.family (deed_of call) (Some c.in-Some.answer) c.perform-next.result.0 = search rules in
     let law = g.met.M.Measure.supported _ in
     running_more _ _ _ _ c.loop-n.invariant law c.in-Some.answer _ (omega (arith, c.min-limit.ensures)) (omega (arith, c.min-limit.ensures)) performed
 

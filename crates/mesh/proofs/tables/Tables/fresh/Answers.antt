@@ -1,17 +1,20 @@
-use Rattle.std.proofs.Common.{◌≡◌, List, ◌∙◌}
-use Rattle.plane.specs.declared.position.Position.{Position}
+use Rattle.std.proofs.Common.{◌≡◌, Bool, true, false, List, [], ◌∷◌, get_or, refl, sym, subst}
 use Rattle.mesh.specs.declared.node.Node.{Node}
-use Rattle.mesh.specs.Tree.{Mesh, corners, fresh}
-use Rattle.mesh.proofs.Fronts.{front_is}
+use Rattle.mesh.specs.Tree.{Mesh, corners, first_nodes, flat_diagonal, fresh}
 use Rattle.mesh.proofs.tables.Tables.fresh.Goals as goal
 
-both : (ps qs : List Position) (ns ms : List Node) → ps ≡ qs → ns ≡ ms →
-    ◌≡◌ {A = Mesh} (record { masters = ps; nodes = ns }) (record { masters = qs; nodes = ms })
-both ps qs ns ms p n = λ i. record { masters = p i; nodes = n i }
+with_corners : (ns ms : List Node) → ns ≡ ms
+    → ◌≡◌ {A = Mesh} (record { masters = corners; nodes = ns }) (record { masters = corners; nodes = ms })
+with_corners ns ms e = λ i. record { masters = corners; nodes = e i }
+
+-- The first nodes are two.
+two : (flat : Bool) (x y : Node) → get_or (first_nodes flat) 0 x ∷ get_or (first_nodes flat) 1 y ∷ [] ≡ first_nodes flat
+two true x y = refl
+two false x y = refl
 
 pub returns : goal.returns
 unfolding fresh
 returns g c =
-    both _ _ _ _ (front_is 4 _ _ corners c.copy_from_slice.ensures.len c.copy_from_slice.ensures.after)
-    (front_is 2 _ _ _ c.copy_from_slice-2.ensures.len
-    (c.copy_from_slice-2.ensures.after ∙ c.first_pair-pair.ensures))
+    let flat = flat_diagonal (g.M.Measure.heights c.args.measure.now) in
+    with_corners _ _
+    (subst (λ (ns : List Node). get_or ns 0 _ ∷ get_or ns 1 _ ∷ [] ≡ first_nodes flat) (sym c.first_pair-pair.ensures) (two flat _ _))
